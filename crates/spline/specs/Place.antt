@@ -1,0 +1,73 @@
+-- Axes, directions, places over ℤ, and their division by the degree.
+use mathlib.Core.Bool.{Bool, true, false}
+use Prim.Native.Nat.{ℕ, suc, _*_, _-_, _/_, _%_}
+use lib.IntN.{ℤ, pos, negsuc, sucℤ, predℤ, _+ℤ_, _*ℤ_}
+
+pub data Axis : Type 0 where
+  a1 a2 a3 : Axis
+
+-- "The directions are 1 = (1,0,0), 2 = (0,1,0), 3 = (0,0,1), 4 = (1,1,1)."
+pub data Direction : Type 0 where
+  along : Axis → Direction
+  diagonal : Direction
+
+abbrev pub sameAxis : Axis → Axis → Bool
+sameAxis a1 a1 = true
+sameAxis a1 a2 = false
+sameAxis a1 a3 = false
+sameAxis a2 a1 = false
+sameAxis a2 a2 = true
+sameAxis a2 a3 = false
+sameAxis a3 a1 = false
+sameAxis a3 a2 = false
+sameAxis a3 a3 = true
+
+-- whether the direction's vector has a 1 on the axis (else it has a 0)
+abbrev pub moves : Direction → Axis → Bool
+moves (along a) b = sameAxis a b
+moves diagonal b = true
+
+-- "a whole-number place q (negative ones too)"
+abbrev pub Place : Type 0
+Place = Axis → ℤ
+
+abbrev pub place : ℤ → ℤ → ℤ → Place
+place x y z a1 = x
+place x y z a2 = y
+place x y z a3 = z
+
+-- the number at every place; 0 outside the box
+abbrev pub Net : Type 0
+Net = Place → ℕ
+
+abbrev pub upIf : Bool → ℤ → ℤ
+upIf true z = sucℤ z
+upIf false z = z
+
+abbrev pub downIf : Bool → ℤ → ℤ
+downIf true z = predℤ z
+downIf false z = z
+
+-- q + d, "d also means its vector"
+infixl 6 _⊕_
+abbrev pub _⊕_ : Place → Direction → Place
+q ⊕ d = λ b. upIf (moves d b) (q b)
+
+-- q − d
+infixl 6 _⊖_
+abbrev pub _⊖_ : Place → Direction → Place
+q ⊖ d = λ b. downIf (moves d b) (q b)
+
+-- "q divided by m, rounded down", on one axis
+abbrev pub floorDiv : ℕ → ℤ → ℤ
+floorDiv m (pos n) = pos (n / m)
+floorDiv m (negsuc n) = negsuc (n / m)
+
+-- "and u the remainder", on one axis: 0 ≤ u < m
+abbrev pub floorMod : ℕ → ℤ → ℕ
+floorMod m (pos n) = n % m
+floorMod m (negsuc n) = m - suc (n % m)
+
+-- m × k + u, on one axis
+abbrev pub compose : ℕ → ℤ → ℕ → ℤ
+compose m k u = pos m *ℤ k +ℤ pos u

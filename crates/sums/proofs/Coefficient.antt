@@ -1,0 +1,132 @@
+-- Laws of factorials, binomial and multinomial coefficients.
+use mathlib.Core.Path.{_≡_, refl, sym, _∙_, ap}
+use Prim.Native.Nat.{ℕ, zero, suc, _+_, _*_, _-_, _≤_, _<_}
+use native.Mathlib.Nat.{le-add-right, mul-pos, mul-le-mul-left, mul-le-mul-right, div-eq-of-eq-mul-left}
+use native.Mathlib.Numerals.{add-one}
+use native.Mathlib.Omega.{arith}
+use Rattle.sums.specs.Coefficient.{factorial, binomial, multinomial}
+
+-- the binomial coefficient by Pascal's rule, with no division
+unfoldable pub choose : ℕ → ℕ → ℕ
+choose zero zero = 1
+choose zero (suc k) = 0
+choose (suc n) zero = 1
+choose (suc n) (suc k) = choose n k + choose n (suc k)
+
+pub choose-zero : (n : ℕ) → choose n 0 ≡ 1
+unfolding choose
+choose-zero zero = refl
+choose-zero (suc n) = refl
+
+pub choose-suc : (n k : ℕ) → choose (suc n) (suc k) ≡ choose n k + choose n (suc k)
+unfolding choose
+choose-suc n k = refl
+
+pub choose-over : (n k : ℕ) → n < k → choose n k ≡ 0
+unfolding choose
+choose-over zero zero h = omega arith
+choose-over zero (suc k) h = refl
+choose-over (suc n) zero h = omega arith
+choose-over (suc n) (suc k) h = let a = choose-over n k (omega arith) in let b = choose-over n (suc k) (omega arith) in omega arith
+
+choose-self : (n : ℕ) → choose n n ≡ 1
+unfolding choose
+choose-self zero = refl
+choose-self (suc n) = let a = choose-self n in let b = choose-over n (suc n) (omega arith) in omega arith
+
+choose-pos : (n k : ℕ) → k ≤ n → 0 < choose n k
+unfolding choose
+choose-pos zero zero h = omega arith
+choose-pos (suc n) zero h = omega arith
+choose-pos zero (suc k) h = omega arith
+choose-pos (suc n) (suc k) h = let ih = choose-pos n k (omega arith) in omega arith
+
+choose-factorial : (n i j : ℕ) → i + j ≡ n → choose n i * (factorial i * factorial j) ≡ factorial n
+unfolding choose factorial
+choose-factorial n zero j e =
+    let c = choose-zero n in
+    let s : j ≡ n = omega arith in
+    omega (arith, ap factorial s, ap (λ (x : ℕ). x * (1 * factorial j)) c)
+choose-factorial n (suc i) zero e =
+    let e′ : n ≡ suc i = omega arith in
+    rw e′ (let c = choose-self (suc i) in rw c (omega arith))
+choose-factorial zero (suc i) (suc j) e = omega arith
+choose-factorial (suc n) (suc i) (suc j) e =
+    let p = choose-factorial n i (suc j) (omega arith) in
+    let q = choose-factorial n (suc i) j (omega arith) in
+    let s : i + j + 1 ≡ n = omega arith in
+    omega (arith, ap (λ (x : ℕ). suc i * x) p, ap (λ (x : ℕ). suc j * x) q, ap (λ (x : ℕ). suc x * factorial n) s)
+
+-- ---- factorials
+
+pub factorial-zero : factorial 0 ≡ 1
+unfolding factorial
+factorial-zero = refl
+
+pub factorial-suc : (n : ℕ) → factorial (suc n) ≡ suc n * factorial n
+unfolding factorial
+factorial-suc n = refl
+
+pub factorial-next : (n : ℕ) → factorial (n + 1) ≡ (n + 1) * factorial n
+factorial-next n = rw (add-one n) (factorial-suc n)
+
+pub factorial-pos : (n : ℕ) → 0 < factorial n
+unfolding factorial
+factorial-pos zero = omega arith
+factorial-pos (suc n) = let ih = factorial-pos n in omega arith
+
+pub factorial-mul-le : (i j : ℕ) → factorial i * factorial j ≤ factorial (i + j)
+factorial-mul-le i j =
+    let p = choose-factorial (i + j) i j refl in
+    let one : 1 ≤ choose (i + j) i = choose-pos (i + j) i (le-add-right i j) in
+    let m = mul-le-mul-right (factorial i * factorial j) one in
+    omega arith
+
+pub factorial-le : (i j : ℕ) → i ≤ j → factorial i ≤ factorial j
+factorial-le i j h =
+    let e : i + (j - i) ≡ j = omega arith in
+    let t : factorial i * factorial (j - i) ≤ factorial j = rw e at (factorial-mul-le i (j - i)) in
+    let m = mul-le-mul-left (factorial i) (factorial-pos (j - i)) in
+    omega arith
+
+-- the largest degree is 9
+pub factorial-nine : (n : ℕ) → n ≤ 9 → factorial n ≤ 362880
+unfolding factorial
+factorial-nine n h = factorial-le n 9 h
+
+-- ---- binomial coefficients
+
+pub binomial-choose : (n k : ℕ) → k ≤ n → binomial n k ≡ choose n k
+unfolding binomial
+binomial-choose n k h =
+    div-eq-of-eq-mul-left (mul-pos (factorial-pos k) (factorial-pos (n - k))) (sym (choose-factorial n k (n - k) (omega arith)))
+
+pub binomial-factorial : (n k : ℕ) → k ≤ n → factorial n ≡ binomial n k * (factorial k * factorial (n - k))
+binomial-factorial n k h = rw (binomial-choose n k h) (sym (choose-factorial n k (n - k) (omega arith)))
+
+pub binomial-zero : (n : ℕ) → binomial n 0 ≡ 1
+binomial-zero n = binomial-choose n 0 (omega arith) ∙ choose-zero n
+
+pub binomial-self : (n : ℕ) → binomial n n ≡ 1
+binomial-self n = binomial-choose n n (omega arith) ∙ choose-self n
+
+pub binomial-pos : (n k : ℕ) → k ≤ n → 0 < binomial n k
+binomial-pos n k h = rw (binomial-choose n k h) (choose-pos n k h)
+
+-- Pascal's rule
+pub binomial-suc : (n k : ℕ) → k < n → binomial (suc n) (suc k) ≡ binomial n k + binomial n (suc k)
+binomial-suc n k h =
+    rw (binomial-choose (suc n) (suc k) (omega arith), binomial-choose n k (omega arith), binomial-choose n (suc k) h) (choose-suc n k)
+
+-- ---- multinomial coefficients
+
+-- of parts that are differences of 0 ≤ a3 ≤ a2 ≤ a1 ≤ m, as a product of binomial coefficients
+pub multinomial-binomial : (m a1 a2 a3 : ℕ) → a1 ≤ m → a2 ≤ a1 → a3 ≤ a2
+    → multinomial m (m - a1) (a1 - a2) (a2 - a3) a3 ≡ binomial m a1 * (binomial a1 a2 * binomial a2 a3)
+unfolding multinomial
+multinomial-binomial m a1 a2 a3 h1 h2 h3 =
+    let p = binomial-factorial m a1 h1 in
+    let q = binomial-factorial a1 a2 h2 in
+    let r = binomial-factorial a2 a3 h3 in
+    let divisor = mul-pos (mul-pos (mul-pos (factorial-pos (m - a1)) (factorial-pos (a1 - a2))) (factorial-pos (a2 - a3))) (factorial-pos a3) in
+    div-eq-of-eq-mul-left divisor (rw (p, q, r) (omega arith))

@@ -1,0 +1,9 @@
+pub mod Fill
+pub mod Search
+pub mod Sum
+pub mod Signed
+pub mod SumZ
+pub mod Accumulator
+pub mod Coefficient
+pub mod Multinomial
+pub mod Places

@@ -1,0 +1,154 @@
+-- Laws of ℤ: the ring, sizes, and order, by way of differences of naturals.
+use mathlib.Core.Path.{_≡_, refl, ap}
+use mathlib.Core.Bool.{Bool, true, false, not, cond}
+use Prim.Native.Nat.{ℕ, zero, suc, _+_, _*_, _-_, _≤_}
+use native.Mathlib.Nat.{le-refl}
+use native.Mathlib.Omega.{arith}
+use lib.Dec.{T, ltb, ltb→lt, nltb→le, le→leb, leb→le}
+use lib.IntN.{ℤ, pos, negsuc, negℤ, _+ℤ_, _-ℤ_, _*ℤ_, subℕ, natAbs}
+use lib.Signed.{mag, _≤ℤ_}
+
+-- the two halves of an integer: z is `up z` − `down z`
+abbrev pub up : ℤ → ℕ
+up (pos n) = n
+up (negsuc n) = 0
+
+abbrev pub down : ℤ → ℕ
+down (pos n) = 0
+down (negsuc n) = suc n
+
+-- z is a − b. Sums, products and negations of such differences are differences, so an identity of ℤ is
+-- one of ℕ, which `omega` proves
+pub record Is (z : ℤ) (a b : ℕ) : Type 0 where
+  pub is : up z + b ≡ a + down z
+
+pub own : (z : ℤ) → Is z (up z) (down z)
+own z = record { is = refl }
+
+pub is-pos : (n : ℕ) → Is (pos n) n 0
+is-pos n = record { is = refl }
+
+-- two names of one difference
+pub same : {z w : ℤ} {a b c d : ℕ} → Is z a b → Is w c d → a + d ≡ c + b → z ≡ w
+same {z = pos m} {w = pos n} h k e = ap pos (omega arith)
+same {z = pos m} {w = negsuc n} h k e = absurd (omega arith)
+same {z = negsuc m} {w = pos n} h k e = absurd (omega arith)
+same {z = negsuc m} {w = negsuc n} h k e = ap negsuc (omega arith)
+
+pub is-as : {z : ℤ} {a b : ℕ} (c d : ℕ) → Is z a b → a + d ≡ c + b → Is z c d
+is-as c d h e = omega arith
+
+cond-is : (t : Bool) (x y : ℤ) (a b : ℕ) → (T t → Is x a b) → (T (not t) → Is y a b) → Is (cond t x y) a b
+cond-is true x y a b f g = f tt
+cond-is false x y a b f g = g tt
+
+pub is-sub : (a b : ℕ) → Is (subℕ a b) a b
+is-sub a b = cond-is (ltb a b) (negsuc (b - suc a)) (pos (a - b)) a b
+    (λ t. let h = ltb→lt a b t in omega arith) (λ t. let h = nltb→le a b t in omega arith)
+
+pub is-neg : {z : ℤ} {a b : ℕ} → Is z a b → Is (negℤ z) b a
+is-neg {z = pos zero} h = omega arith
+is-neg {z = pos (suc n)} h = omega arith
+is-neg {z = negsuc n} h = omega arith
+
+pub is-add : {z w : ℤ} {a b c d : ℕ} → Is z a b → Is w c d → Is (z +ℤ w) (a + c) (b + d)
+is-add {z = pos m} {w = pos n} h k = omega arith
+is-add {z = pos m} {w = negsuc n} h k = is-as _ _ (is-sub m (suc n)) (omega arith)
+is-add {z = negsuc m} {w = pos n} h k = is-as _ _ (is-sub n (suc m)) (omega arith)
+is-add {z = negsuc m} {w = negsuc n} h k = omega arith
+
+pub is-diff : {z w : ℤ} {a b c d : ℕ} → Is z a b → Is w c d → Is (z -ℤ w) (a + d) (b + c)
+is-diff h k = is-add h (is-neg k)
+
+pub is-mul : {z w : ℤ} {a b c d : ℕ} → Is z a b → Is w c d → Is (z *ℤ w) (a * c + b * d) (a * d + b * c)
+is-mul {z = pos m} {w = pos n} {a = a} {b = b} {c = c} {d = d} h k =
+    let p : a ≡ m + b = omega arith in
+    let q : c ≡ n + d = omega arith in
+    rw (p, q) (record { is = omega arith })
+is-mul {z = pos m} {w = negsuc n} {a = a} {b = b} {c = c} {d = d} h k =
+    let p : a ≡ m + b = omega arith in
+    let q : d ≡ suc n + c = omega arith in
+    rw (p, q) (is-as _ _ (is-neg (is-pos (m * suc n))) (omega arith))
+is-mul {z = negsuc m} {w = pos n} {a = a} {b = b} {c = c} {d = d} h k =
+    let p : b ≡ suc m + a = omega arith in
+    let q : c ≡ n + d = omega arith in
+    rw (p, q) (is-as _ _ (is-neg (is-pos (suc m * n))) (omega arith))
+is-mul {z = negsuc m} {w = negsuc n} {a = a} {b = b} {c = c} {d = d} h k =
+    let p : b ≡ suc m + a = omega arith in
+    let q : d ≡ suc n + c = omega arith in
+    rw (p, q) (record { is = omega arith })
+
+-- ---- the ring's laws, each by its halves
+
+pub *ℤ-+ℤ : (x y z : ℤ) → x *ℤ (y +ℤ z) ≡ x *ℤ y +ℤ x *ℤ z
+*ℤ-+ℤ x y z = same (is-mul (own x) (is-add (own y) (own z))) (is-add (is-mul (own x) (own y)) (is-mul (own x) (own z))) (omega arith)
+
+pub +ℤ-*ℤ : (x y z : ℤ) → (x +ℤ y) *ℤ z ≡ x *ℤ z +ℤ y *ℤ z
++ℤ-*ℤ x y z = same (is-mul (is-add (own x) (own y)) (own z)) (is-add (is-mul (own x) (own z)) (is-mul (own y) (own z))) (omega arith)
+
+pub *ℤ-assoc : (x y z : ℤ) → x *ℤ y *ℤ z ≡ x *ℤ (y *ℤ z)
+*ℤ-assoc x y z = same (is-mul (is-mul (own x) (own y)) (own z)) (is-mul (own x) (is-mul (own y) (own z))) (omega arith)
+
+pub *ℤ-left-comm : (x y z : ℤ) → x *ℤ (y *ℤ z) ≡ y *ℤ (x *ℤ z)
+*ℤ-left-comm x y z = same (is-mul (own x) (is-mul (own y) (own z))) (is-mul (own y) (is-mul (own x) (own z))) (omega arith)
+
+pub +ℤ-left-comm : (x y z : ℤ) → x +ℤ (y +ℤ z) ≡ y +ℤ (x +ℤ z)
++ℤ-left-comm x y z = same (is-add (own x) (is-add (own y) (own z))) (is-add (own y) (is-add (own x) (own z))) (omega arith)
+
+pub +ℤ-swap : (a b c d : ℤ) → a +ℤ b +ℤ (c +ℤ d) ≡ a +ℤ c +ℤ (b +ℤ d)
++ℤ-swap a b c d = same (is-add (is-add (own a) (own b)) (is-add (own c) (own d))) (is-add (is-add (own a) (own c)) (is-add (own b) (own d))) (omega arith)
+
+pub negℤ-*ℤ : (x y : ℤ) → negℤ x *ℤ y ≡ negℤ (x *ℤ y)
+negℤ-*ℤ x y = same (is-mul (is-neg (own x)) (own y)) (is-neg (is-mul (own x) (own y))) (omega arith)
+
+pub +ℤ-cancel : (x : ℤ) {y z : ℤ} → x +ℤ y ≡ x +ℤ z → y ≡ z
++ℤ-cancel x {y} {z} e =
+    same (own y) (own z)
+    (let a = is-add (own x) (own y) in let b = is-add (own x) (own z) in
+    let c : up (x +ℤ y) ≡ up (x +ℤ z) = ap up e in let d : down (x +ℤ y) ≡ down (x +ℤ z) = ap down e in omega arith)
+
+-- ---- size
+
+pub halves : (z : ℤ) → natAbs z ≡ up z + down z
+halves (pos n) = omega arith
+halves (negsuc n) = omega arith
+
+-- a difference of naturals that are at most B apart
+pub abs-le : {z : ℤ} {a b : ℕ} (B : ℕ) → Is z a b → a ≤ b + B → b ≤ a + B → natAbs z ≤ B
+abs-le {z = pos n} B h k l = omega arith
+abs-le {z = negsuc n} B h k l = omega arith
+
+pub abs-add : (x y : ℤ) → natAbs (x +ℤ y) ≤ natAbs x + natAbs y
+abs-add x y = let p = halves x in let q = halves y in abs-le (natAbs x + natAbs y) (is-add (own x) (own y)) (omega arith) (omega arith)
+
+pub abs-neg : (z : ℤ) → natAbs (negℤ z) ≡ natAbs z
+abs-neg (pos zero) = refl
+abs-neg (pos (suc n)) = refl
+abs-neg (negsuc n) = refl
+
+pub abs-diff : (x y : ℤ) → natAbs (x -ℤ y) ≤ natAbs x + natAbs y
+abs-diff x y = omega (arith, abs-add x (negℤ y), abs-neg y)
+
+pub abs-mul : (x y : ℤ) → natAbs (x *ℤ y) ≡ natAbs x * natAbs y
+abs-mul (pos a) (pos b) = refl
+abs-mul (pos a) (negsuc b) = abs-neg (pos (a * suc b))
+abs-mul (negsuc a) (pos b) = abs-neg (pos (suc a * b))
+abs-mul (negsuc a) (negsuc b) = refl
+
+pub mag-le : (z : ℤ) → mag z ≤ natAbs z
+mag-le (pos n) = le-refl n
+mag-le (negsuc n) = omega arith
+
+-- ---- order
+
+pub le-is : {x y : ℤ} {a b c d : ℕ} → Is x a b → Is y c d → a + d ≤ c + b → x ≤ℤ y
+le-is {x = pos m} {y = pos n} h k l = record { le = le→leb m n (omega arith) }
+le-is {x = pos m} {y = negsuc n} h k l = absurd (omega arith)
+le-is {x = negsuc m} {y = pos n} h k l = record { le = tt }
+le-is {x = negsuc m} {y = negsuc n} h k l = record { le = le→leb n m (omega arith) }
+
+pub is-le : {x y : ℤ} {a b c d : ℕ} → x ≤ℤ y → Is x a b → Is y c d → a + d ≤ c + b
+is-le {x = pos m} {y = pos n} l h k = let e = leb→le m n (l .le) in omega arith
+is-le {x = pos m} {y = negsuc n} l h k = absurd (l .le)
+is-le {x = negsuc m} {y = pos n} l h k = omega arith
+is-le {x = negsuc m} {y = negsuc n} l h k = let e = leb→le n m (l .le) in omega arith

@@ -1,0 +1,164 @@
+-- Laws of finite sums over ℤ, and their sizes.
+use mathlib.Core.Path.{_≡_, refl, sym, ap, ap₂, _∙_}
+use Prim.Native.Nat.{ℕ, zero, suc, _+_, _*_, _≤_, _<_}
+use native.Mathlib.Nat.{le-refl, mul-one, mul-le-mul-left, add-zero, add-suc}
+use native.Mathlib.Numerals.{add-one}
+use native.Mathlib.Omega.{arith}
+use lib.IntN.{ℤ, pos, _+ℤ_, _*ℤ_, natAbs, +ℤ-idr, +ℤ-idl, +ℤ-assoc, *ℤ-zero, *ℤ-comm, zero-*ℤ, sucℤ-*ℤ}
+use Rattle.sums.specs.Sum.{sumTo, sumZ, sumBox, sumBoxZ}
+use Rattle.sums.proofs.Sum.{sum-mul, sumBox-mul, sumBox-const}
+use Rattle.sums.proofs.Signed.{Is, is-pos, is-add, is-mul, own, same, +ℤ-swap, *ℤ-+ℤ, +ℤ-*ℤ, abs-add, abs-mul}
+
+pub sumZ-zero : (f : ℕ → ℤ) → sumZ 0 f ≡ pos 0
+unfolding sumZ
+sumZ-zero f = refl
+
+pub sumZ-suc : (n : ℕ) (f : ℕ → ℤ) → sumZ (suc n) f ≡ sumZ n f +ℤ f n
+unfolding sumZ
+sumZ-suc n f = refl
+
+pub sumZ-next : (n : ℕ) (f : ℕ → ℤ) → sumZ (n + 1) f ≡ sumZ n f +ℤ f n
+sumZ-next n f = rw (add-one n) (sumZ-suc n f)
+
+-- only the terms below n count
+pub sumZ-cong : (n : ℕ) (f g : ℕ → ℤ) → ((k : ℕ) → k < n → f k ≡ g k) → sumZ n f ≡ sumZ n g
+unfolding sumZ
+sumZ-cong zero f g h = refl
+sumZ-cong (suc n) f g h = ap₂ (λ (a b : ℤ). a +ℤ b) (sumZ-cong n f g (λ k l. h k (omega arith))) (h n (omega arith))
+
+pub sumZ-add : (n : ℕ) (f g : ℕ → ℤ) → sumZ n (λ k. f k +ℤ g k) ≡ sumZ n f +ℤ sumZ n g
+unfolding sumZ
+sumZ-add zero f g = refl
+sumZ-add (suc n) f g = rw (sumZ-add n f g) (+ℤ-swap (sumZ n f) (sumZ n g) (f n) (g n))
+
+-- a common factor, on either side
+pub sumZ-mul : (n : ℕ) (c : ℤ) (f : ℕ → ℤ) → sumZ n (λ k. c *ℤ f k) ≡ c *ℤ sumZ n f
+unfolding sumZ
+sumZ-mul zero c f = sym (*ℤ-zero c)
+sumZ-mul (suc n) c f = rw (sumZ-mul n c f) (sym (*ℤ-+ℤ c (sumZ n f) (f n)))
+
+pub sumZ-mulr : (n : ℕ) (c : ℤ) (f : ℕ → ℤ) → sumZ n (λ k. f k *ℤ c) ≡ sumZ n f *ℤ c
+unfolding sumZ
+sumZ-mulr zero c f = sym (zero-*ℤ c)
+sumZ-mulr (suc n) c f = rw (sumZ-mulr n c f) (sym (+ℤ-*ℤ (sumZ n f) (f n) c))
+
+pub sumZ-const : (n : ℕ) (c : ℤ) → sumZ n (λ k. c) ≡ pos n *ℤ c
+unfolding sumZ
+sumZ-const zero c = sym (zero-*ℤ c)
+sumZ-const (suc n) c = rw (sumZ-const n c) (sym (sucℤ-*ℤ (pos n) c))
+
+pub sumZ-nil : (n : ℕ) → sumZ n (λ k. pos 0) ≡ pos 0
+sumZ-nil n = sumZ-const n (pos 0) ∙ *ℤ-zero (pos n)
+
+-- the first term apart
+pub sumZ-first : (n : ℕ) (f : ℕ → ℤ) → sumZ (suc n) f ≡ f 0 +ℤ sumZ n (λ k. f (suc k))
+unfolding sumZ
+sumZ-first zero f = +ℤ-idl (f 0) ∙ sym (+ℤ-idr (f 0))
+sumZ-first (suc n) f = rw (sumZ-first n f) (+ℤ-assoc (f 0) (sumZ n (λ k. f (suc k))) (f (suc n)))
+
+-- a sum in two parts
+pub sumZ-split : (a b : ℕ) (f : ℕ → ℤ) → sumZ (a + b) f ≡ sumZ a f +ℤ sumZ b (λ k. f (a + k))
+unfolding sumZ
+sumZ-split a zero f = rw (add-zero a) (sym (+ℤ-idr (sumZ a f)))
+sumZ-split a (suc b) f = rw (add-suc a b, sumZ-split a b f) (+ℤ-assoc (sumZ a f) (sumZ b (λ k. f (a + k))) (f (a + b)))
+
+pub sumZ-swap : (n m : ℕ) (f : ℕ → ℕ → ℤ) → sumZ n (λ i. sumZ m (λ j. f i j)) ≡ sumZ m (λ j. sumZ n (λ i. f i j))
+unfolding sumZ
+sumZ-swap zero m f = sym (sumZ-nil m)
+sumZ-swap (suc n) m f = ap (λ (x : ℤ). x +ℤ sumZ m (λ j. f n j)) (sumZ-swap n m f) ∙ sym (sumZ-add m (λ j. sumZ n (λ i. f i j)) (λ j. f n j))
+
+-- a sum of naturals is a natural
+pub sumZ-pos : (n : ℕ) (f : ℕ → ℕ) → sumZ n (λ k. pos (f k)) ≡ pos (sumTo n f)
+unfolding sumZ sumTo
+sumZ-pos zero f = refl
+sumZ-pos (suc n) f = rw (sumZ-pos n f) refl
+
+-- a sum of differences of naturals is the difference of their sums
+pub sumZ-is : (n : ℕ) (f : ℕ → ℤ) (a b : ℕ → ℕ) → ((k : ℕ) → k < n → Is (f k) (a k) (b k)) → Is (sumZ n f) (sumTo n a) (sumTo n b)
+unfolding sumZ sumTo
+sumZ-is zero f a b h = is-pos 0
+sumZ-is (suc n) f a b h = is-add (sumZ-is n f a b (λ k l. h k (omega arith))) (h n (omega arith))
+
+pub sumZ-abs : (n : ℕ) (f : ℕ → ℤ) (g : ℕ → ℕ) → ((k : ℕ) → k < n → natAbs (f k) ≤ g k) → natAbs (sumZ n f) ≤ sumTo n g
+unfolding sumZ sumTo
+sumZ-abs zero f g h = le-refl 0
+sumZ-abs (suc n) f g h =
+    let ih = sumZ-abs n f g (λ k l. h k (omega arith)) in
+    let t = h n (omega arith) in
+    let s = abs-add (sumZ n f) (f n) in
+    omega arith
+
+-- where each term is at most K times its weight, the sum is at most K times the weights' sum
+pub sumZ-weighed : (n K : ℕ) (f : ℕ → ℤ) (w : ℕ → ℕ) → ((k : ℕ) → k < n → natAbs (f k) ≤ K * w k) → natAbs (sumZ n f) ≤ K * sumTo n w
+sumZ-weighed n K f w h = rw (← sum-mul n K w) (sumZ-abs n f (λ k. K * w k) h)
+
+-- ---- sums over a box
+
+module _ (n1 n2 n3 : ℕ) where
+  -- only the places of the box count
+  pub sumBoxZ-cong : (f g : ℕ → ℕ → ℕ → ℤ) → ((i1 i2 i3 : ℕ) → i1 < n1 → i2 < n2 → i3 < n3 → f i1 i2 i3 ≡ g i1 i2 i3) → sumBoxZ n1 n2 n3 f ≡ sumBoxZ n1 n2 n3 g
+  unfolding sumBoxZ
+  sumBoxZ-cong f g h = sumZ-cong n3 _ _ (λ i3 l3. sumZ-cong n2 _ _ (λ i2 l2. sumZ-cong n1 _ _ (λ i1 l1. h i1 i2 i3 l1 l2 l3)))
+
+  pub sumBoxZ-add : (f g : ℕ → ℕ → ℕ → ℤ) → sumBoxZ n1 n2 n3 (λ i1 i2 i3. f i1 i2 i3 +ℤ g i1 i2 i3) ≡ sumBoxZ n1 n2 n3 f +ℤ sumBoxZ n1 n2 n3 g
+  unfolding sumBoxZ
+  sumBoxZ-add f g =
+      sumZ-cong n3 _ _ (λ i3 l3.
+      sumZ-cong n2 _ _ (λ i2 l2. sumZ-add n1 (λ i1. f i1 i2 i3) (λ i1. g i1 i2 i3))
+      ∙ sumZ-add n2 (λ i2. sumZ n1 (λ i1. f i1 i2 i3)) (λ i2. sumZ n1 (λ i1. g i1 i2 i3)))
+      ∙ sumZ-add n3 (λ i3. sumZ n2 (λ i2. sumZ n1 (λ i1. f i1 i2 i3))) (λ i3. sumZ n2 (λ i2. sumZ n1 (λ i1. g i1 i2 i3)))
+
+  -- a common factor, on either side
+  pub sumBoxZ-mul : (c : ℤ) (f : ℕ → ℕ → ℕ → ℤ) → sumBoxZ n1 n2 n3 (λ i1 i2 i3. c *ℤ f i1 i2 i3) ≡ c *ℤ sumBoxZ n1 n2 n3 f
+  unfolding sumBoxZ
+  sumBoxZ-mul c f =
+      sumZ-cong n3 _ _ (λ i3 l3.
+      sumZ-cong n2 _ _ (λ i2 l2. sumZ-mul n1 c (λ i1. f i1 i2 i3))
+      ∙ sumZ-mul n2 c (λ i2. sumZ n1 (λ i1. f i1 i2 i3)))
+      ∙ sumZ-mul n3 c (λ i3. sumZ n2 (λ i2. sumZ n1 (λ i1. f i1 i2 i3)))
+
+  pub sumBoxZ-mulr : (c : ℤ) (f : ℕ → ℕ → ℕ → ℤ) → sumBoxZ n1 n2 n3 (λ i1 i2 i3. f i1 i2 i3 *ℤ c) ≡ sumBoxZ n1 n2 n3 f *ℤ c
+  sumBoxZ-mulr c f = sumBoxZ-cong _ _ (λ i1 i2 i3 l1 l2 l3. *ℤ-comm (f i1 i2 i3) c) ∙ sumBoxZ-mul c f ∙ *ℤ-comm c (sumBoxZ n1 n2 n3 f)
+
+  pub sumBoxZ-nil : sumBoxZ n1 n2 n3 (λ i1 i2 i3. pos 0) ≡ pos 0
+  sumBoxZ-nil = sumBoxZ-mul (pos 0) (λ i1 i2 i3. pos 0) ∙ zero-*ℤ (sumBoxZ n1 n2 n3 (λ i1 i2 i3. pos 0))
+
+  pub sumBoxZ-pos : (f : ℕ → ℕ → ℕ → ℕ) → sumBoxZ n1 n2 n3 (λ i1 i2 i3. pos (f i1 i2 i3)) ≡ pos (sumBox n1 n2 n3 f)
+  unfolding sumBoxZ sumBox
+  sumBoxZ-pos f =
+      sumZ-cong n3 _ _ (λ i3 l3.
+      sumZ-cong n2 _ _ (λ i2 l2. sumZ-pos n1 (λ i1. f i1 i2 i3))
+      ∙ sumZ-pos n2 (λ i2. sumTo n1 (λ i1. f i1 i2 i3)))
+      ∙ sumZ-pos n3 (λ i3. sumTo n2 (λ i2. sumTo n1 (λ i1. f i1 i2 i3)))
+
+  pub sumBoxZ-const : (c : ℤ) → sumBoxZ n1 n2 n3 (λ i1 i2 i3. c) ≡ pos (n1 * n2 * n3) *ℤ c
+  sumBoxZ-const c =
+      let n : sumBox n1 n2 n3 (λ i1 i2 i3. 1) ≡ n1 * n2 * n3 = sumBox-const n1 n2 n3 1 ∙ mul-one (n1 * n2 * n3) in
+      sumBoxZ-cong _ _ (λ i1 i2 i3 l1 l2 l3. same (own c) (is-mul (is-pos 1) (own c)) (omega arith))
+      ∙ sumBoxZ-mulr c (λ i1 i2 i3. pos 1)
+      ∙ ap (λ (z : ℤ). z *ℤ c) (sumBoxZ-pos (λ i1 i2 i3. 1) ∙ ap pos n)
+
+  -- a sum of sums over the box, the other way round
+  pub sumBoxZ-swap : (m : ℕ) (f : ℕ → ℕ → ℕ → ℕ → ℤ) → sumZ m (λ k. sumBoxZ n1 n2 n3 (f k)) ≡ sumBoxZ n1 n2 n3 (λ i1 i2 i3. sumZ m (λ k. f k i1 i2 i3))
+  unfolding sumBoxZ
+  sumBoxZ-swap m f =
+      sumZ-swap m n3 (λ k i3. sumZ n2 (λ i2. sumZ n1 (λ i1. f k i1 i2 i3)))
+      ∙ sumZ-cong n3 _ _ (λ i3 l3.
+      sumZ-swap m n2 (λ k i2. sumZ n1 (λ i1. f k i1 i2 i3))
+      ∙ sumZ-cong n2 _ _ (λ i2 l2. sumZ-swap m n1 (λ k i1. f k i1 i2 i3)))
+
+  pub sumBoxZ-abs : (f : ℕ → ℕ → ℕ → ℤ) (g : ℕ → ℕ → ℕ → ℕ) → ((i1 i2 i3 : ℕ) → i1 < n1 → i2 < n2 → i3 < n3 → natAbs (f i1 i2 i3) ≤ g i1 i2 i3)
+      → natAbs (sumBoxZ n1 n2 n3 f) ≤ sumBox n1 n2 n3 g
+  unfolding sumBoxZ sumBox
+  sumBoxZ-abs f g h = sumZ-abs n3 _ _ (λ i3 l3. sumZ-abs n2 _ _ (λ i2 l2. sumZ-abs n1 _ _ (λ i1 l1. h i1 i2 i3 l1 l2 l3)))
+
+  -- numbers of size at most K, each with its share
+  pub blend-abs : (K : ℕ) (share : ℕ → ℕ → ℕ → ℕ) (corr : ℕ → ℕ → ℕ → ℤ) → ((i1 i2 i3 : ℕ) → i1 < n1 → i2 < n2 → i3 < n3 → natAbs (corr i1 i2 i3) ≤ K)
+      → natAbs (sumBoxZ n1 n2 n3 (λ i1 i2 i3. pos (share i1 i2 i3) *ℤ corr i1 i2 i3)) ≤ K * sumBox n1 n2 n3 share
+  blend-abs K share corr h =
+      rw (← sumBox-mul n1 n2 n3 K share)
+      (sumBoxZ-abs _ (λ i1 i2 i3. K * share i1 i2 i3)
+      (λ i1 i2 i3 l1 l2 l3.
+      let e = abs-mul (pos (share i1 i2 i3)) (corr i1 i2 i3) in
+      let m = mul-le-mul-left (share i1 i2 i3) (h i1 i2 i3 l1 l2 l3) in
+      omega arith))

@@ -1,0 +1,13 @@
+-- Lists that are given by their number at each index, as a filling loop makes them.
+use mathlib.Core.List.{List, [], _∷_, _++_}
+use Prim.Native.Nat.{ℕ, zero, suc}
+use lib.ListN.{drop}
+
+-- f 0, .., f (n − 1)
+unfoldable pub tabulate : {A : Type 0} → (ℕ → A) → ℕ → List A
+tabulate f zero = []
+tabulate f (suc n) = tabulate f n ++ (f n ∷ [])
+
+-- the list d with f's values in its first n places, the rest untouched
+unfoldable pub filled : {A : Type 0} → (ℕ → A) → ℕ → List A → List A
+filled f n d = tabulate f n ++ drop n d

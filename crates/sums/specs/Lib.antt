@@ -1,0 +1,5 @@
+pub mod Sum
+pub mod Coefficient
+pub mod Simplex
+pub mod Search
+pub mod Fill
