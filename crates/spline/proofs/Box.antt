@@ -34,6 +34,10 @@ in-box : (w : ℕ) (z : ℤ) (f : ℕ → ℕ) (v : ℕ) → (Low z → v ≡ 0)
 in-box w (pos n) f v l h g = by-ltb (λ (x : ℕ). x ≡ v) n w (f n) 0 (g n refl) (λ k. sym (h k))
 in-box w (negsuc n) f v l h g = sym (l tt)
 
+nought : (w : ℕ) (z : ℤ) (f : ℕ → ℕ) → ((n : ℕ) → f n ≡ 0) → inBox w z f ≡ 0
+nought w (pos n) f h = by-ltb (λ (x : ℕ). x ≡ 0) n w (f n) 0 (λ k. h n) (λ k. refl)
+nought w (negsuc n) f h = refl
+
 place-eta : (q : Place) → place (q a1) (q a2) (q a3) ≡ q
 place-eta q = fun-ext go
   where
@@ -60,14 +64,22 @@ module _ (W : Axis → ℕ) (s : List ℕ) where
       below : (w : ℕ) (z : ℤ) (f : ℕ → ℕ) → Below 0 z → inBox w z f ≡ 0
       below w (negsuc n) f h = refl
 
-      nought : (w : ℕ) (z : ℤ) (f : ℕ → ℕ) → ((n : ℕ) → f n ≡ 0) → inBox w z f ≡ 0
-      nought w (pos n) f h = by-ltb (λ (x : ℕ). x ≡ 0) n w (f n) 0 (λ k. h n) (λ k. refl)
-      nought w (negsuc n) f h = refl
-
       go : (q : Place) (b : Axis) → Below 0 (q b) → spread W s q ≡ 0
       go q a1 h = below (W a1) (q a1) _ h
       go q a2 h = nought (W a1) (q a1) _ (λ x. below (W a2) (q a2) _ h)
       go q a3 h = nought (W a1) (q a1) _ (λ x. nought (W a2) (q a2) _ (λ y. below (W a3) (q a3) _ h))
+
+  pub spread-outside : (q : Place) (b : Axis) → High (W b) (q b) → spread W s q ≡ 0
+  unfolding spread
+  spread-outside = go
+    where
+      above : (w : ℕ) (z : ℤ) (f : ℕ → ℕ) → High w z → inBox w z f ≡ 0
+      above w (pos n) f h = by-ltb (λ (x : ℕ). x ≡ 0) n w (f n) 0 (λ k. absurd (omega arith)) (λ k. refl)
+
+      go : (q : Place) (b : Axis) → High (W b) (q b) → spread W s q ≡ 0
+      go q a1 h = above (W a1) (q a1) _ h
+      go q a2 h = nought (W a1) (q a1) _ (λ x. above (W a2) (q a2) _ h)
+      go q a3 h = nought (W a1) (q a1) _ (λ x. nought (W a2) (q a2) _ (λ y. above (W a3) (q a3) _ h))
 
   -- a net that is 0 outside the box, and whose list over the box the slice's first places are
   module _ (C : Net) (low : ZeroLow C) (high : (q : Place) (b : Axis) → High (W b) (q b) → C q ≡ 0) where

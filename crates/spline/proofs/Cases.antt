@@ -14,8 +14,8 @@ pub by-ltb : {A : Type 0} (P : A → Type 0) (a b : ℕ) (x y : A) → (a < b �
 by-ltb P a b x y f g = by-test P (ltb a b) x y (λ t. f (ltb→lt a b t)) (λ t. g (nltb→le a b t))
 
 -- two numbers, one below the other or not
-pub order {ℓ} : {A : Type ℓ} (a b : ℕ) → (a < b → A) → (b ≤ a → A) → A
-order {A = A} a b f g = go (decLt a b)
+pub by-order {ℓ} : {A : Type ℓ} (a b : ℕ) → (a < b → A) → (b ≤ a → A) → A
+by-order {A = A} a b f g = go (decLt a b)
   where
     go : Dec (a < b) → A
     go (yes l) = f l

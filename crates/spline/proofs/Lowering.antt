@@ -6,7 +6,7 @@ use Prim.Native.Nat.{_+_, _-_, _<_, _≤_, suc, ℕ}
 use native.Mathlib.Omega.{arith}
 use lib.Dec.{T}
 use lib.IntN.{predℤ, suc-pred, sucℤ, ℤ}
-use Rattle.spline.proofs.Cases.{by-ltb, order}
+use Rattle.spline.proofs.Cases.{by-ltb, by-order}
 use Rattle.spline.proofs.Division.{compose-carry, compose-div-mod, compose-suc, div-compose, mod-below, mod-compose}
 use Rattle.spline.proofs.Steps.{back, back-compose, back-stays, backIf, div-back, mod-back}
 use Rattle.spline.specs.Build.{loweredPlace}
@@ -28,7 +28,7 @@ lowerAbove-le c x = by-ltb (λ (n : ℕ). n ≤ x) c x (x - 1) x (λ l. omega ar
 
 lowerAbove-comm-lt : (c e x : ℕ) → c < e → lowerAbove (lowerAbove c e) (lowerAbove c x) ≡ lowerAbove (lowerAbove e c) (lowerAbove e x)
 lowerAbove-comm-lt c e x h =
-    ap₂ lowerAbove (above-lowers c e h) refl ∙ order x (suc c) low′ (λ l. order e x (high l) (mid l)) ∙ ap₂ lowerAbove (sym (below-stays e c (omega arith))) refl
+    ap₂ lowerAbove (above-lowers c e h) refl ∙ by-order x (suc c) low′ (λ l. by-order e x (high l) (mid l)) ∙ ap₂ lowerAbove (sym (below-stays e c (omega arith))) refl
   where
     low′ : x < suc c → lowerAbove (e - 1) (lowerAbove c x) ≡ lowerAbove c (lowerAbove e x)
     low′ l = rw (below-stays c x (omega arith), below-stays e x (omega arith), below-stays c x (omega arith)) (below-stays (e - 1) x (omega arith))
@@ -40,16 +40,16 @@ lowerAbove-comm-lt c e x h =
     high l k = rw (above-lowers e x (omega arith), above-lowers c x (omega arith), above-lowers c (x - 1) (omega arith)) (above-lowers (e - 1) (x - 1) (omega arith))
 
 pub lowerAbove-comm : (c e x : ℕ) → c ≢ e → lowerAbove (lowerAbove c e) (lowerAbove c x) ≡ lowerAbove (lowerAbove e c) (lowerAbove e x)
-lowerAbove-comm c e x n = order c e (lowerAbove-comm-lt c e x) (λ l. sym (lowerAbove-comm-lt e c x (omega arith)))
+lowerAbove-comm c e x n = by-order c e (lowerAbove-comm-lt c e x) (λ l. sym (lowerAbove-comm-lt e c x (omega arith)))
 
 -- what a step of one remainder, or of both, makes of the lowered one
 pub lowerAbove-suc : (c u : ℕ) → c ≢ u → lowerAbove c (suc u) ≡ suc (lowerAbove c u)
-lowerAbove-suc c u n = order c u
+lowerAbove-suc c u n = by-order c u
     (λ l. omega (arith, above-lowers c u l, above-lowers c (suc u) (omega arith)))
     (λ l. omega (arith, below-stays c u l, below-stays c (suc u) (omega arith)))
 
 pub lowerAbove-both : (c u : ℕ) → lowerAbove (suc c) (suc u) ≡ suc (lowerAbove c u)
-lowerAbove-both c u = order c u
+lowerAbove-both c u = by-order c u
     (λ l. omega (arith, above-lowers c u l, above-lowers (suc c) (suc u) (omega arith)))
     (λ l. omega (arith, below-stays c u l, below-stays (suc c) (suc u) (omega arith)))
 
@@ -81,7 +81,7 @@ mod-top m z h = ap (floorMod (suc m)) (suc-top m z h) ∙ mod-compose m (sucℤ 
 -- what stands at the next place, for any rule F on the remainder
 pub next : (m : ℕ) (z : ℤ) (F : ℕ → ℕ) (n : ℕ) → (floorMod (suc m) z < m → F (suc (floorMod (suc m) z)) ≡ n) → (floorMod (suc m) z ≡ m → m + F 0 ≡ n)
     → compose m (floorDiv (suc m) (sucℤ z)) (F (floorMod (suc m) (sucℤ z))) ≡ compose m (floorDiv (suc m) z) n
-next m z F n f g = order (floorMod (suc m) z) m
+next m z F n f g = by-order (floorMod (suc m) z) m
     (λ l. ap₂ (λ (k : ℤ) (u : ℕ). compose m k (F u)) (div-within m z l) (mod-within m z l) ∙ ap (compose m (floorDiv (suc m) z)) (f l))
     (λ l. top (omega (arith, mod-below m z)))
   where
@@ -137,7 +137,7 @@ lowered-whole-back d e g q =
 
 -- ---- lowering a place that is given by cell and remainder
 lowered-axis : (g : ℕ) (k : ℤ) (c w : ℕ) → w ≤ suc g → c < suc g → compose g (floorDiv (suc g) (compose (suc g) k w)) (lowerAbove c (floorMod (suc g) (compose (suc g) k w))) ≡ compose g k (lowerAbove c w)
-lowered-axis g k c w h l = order w (suc g)
+lowered-axis g k c w h l = by-order w (suc g)
     (λ r. ap₂ (λ (j : ℤ) (u : ℕ). compose g j (lowerAbove c u)) (div-compose g k w r) (mod-compose g k w r))
     (λ r. top (omega arith))
   where

@@ -6,7 +6,7 @@ use Prim.Native.Nat.{_<_, _≤_, suc, ℕ}
 use native.Mathlib.Decide.{ℕ-discrete}
 use native.Mathlib.Omega.{arith}
 use lib.Dec.{T}
-use Rattle.spline.proofs.Cases.{order}
+use Rattle.spline.proofs.Cases.{by-order}
 use Rattle.spline.proofs.Division.{mod-below}
 use Rattle.spline.proofs.Lowering.{above-lowers, along-free, along-stuck, below-stays, both-free, both-stuck, diag-free, diag-stuck, lowerAbove-comm, lowerAbove-le, lowered-along, lowered-diagonal}
 use Rattle.spline.specs.Build.{loweredPlace}
@@ -75,11 +75,11 @@ module _ (g : ℕ) (q : Place) where
 
       go : Dec (u a ≡ u e) → Meet (along a) (along e) g q
       go (yes p) = stuck (one-stuck a e s p) (one-stuck e a s′ (sym p))
-      go (no n) = free (one-free a e s n) (one-free e a s′ (λ p. n (sym p))) (order (u a) (u e) (comm-lt a e) (λ l. sym (comm-lt e a (omega arith))))
+      go (no n) = free (one-free a e s n) (one-free e a s′ (λ p. n (sym p))) (by-order (u a) (u e) (comm-lt a e) (λ l. sym (comm-lt e a (omega arith))))
 
   -- an axis and the diagonal
   pub meet-diagonal : (a : Axis) → Meet (along a) diagonal g q
-  meet-diagonal a = order (u a) (suc g)
+  meet-diagonal a = by-order (u a) (suc g)
       (λ l. free (fun-ext (λ b. both-free (suc g) (q a) (q b) l))
       (fun-ext (λ b. diag-free (suc g) (sameAxis a b) (q b) (λ t. subst (λ (x : Axis). u x < suc g) (sameAxis-eq a b t) l)))
       (lowered-diagonal g (cell (suc (suc g)) q) (lowered (along a) u) (λ b. small l b)
@@ -87,7 +87,7 @@ module _ (g : ℕ) (q : Place) where
       (λ l. top (omega (arith, u-lt a)))
     where
       small : u a < suc g → (b : Axis) → lowerAbove (u a) (u b) < suc g
-      small l b = order (u a) (u b) (λ r. omega (arith, above-lowers (u a) (u b) r, u-lt b)) (λ r. omega (arith, below-stays (u a) (u b) r))
+      small l b = by-order (u a) (u b) (λ r. omega (arith, above-lowers (u a) (u b) r, u-lt b)) (λ r. omega (arith, below-stays (u a) (u b) r))
 
       top : u a ≡ suc g → Meet (along a) diagonal g q
       top p = stuck (fun-ext (λ b. both-stuck (suc g) (q a) (q b) p))

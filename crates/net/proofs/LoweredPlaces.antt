@@ -1,0 +1,93 @@
+-- The difference at a place of the box, in natural numbers.
+use mathlib.Core.List.{List}
+use mathlib.Core.Path.{_∙_, _≡_, ap, ap₂, fun-ext, refl, sym}
+use Prim.Native.Nat.{_%_, _*_, _+_, _-_, _/_, _≤_, suc, ℕ}
+use native.Mathlib.Nat.{mod-lt, zero-lt-suc}
+use native.Mathlib.Numerals.{add-one}
+use native.Mathlib.Omega.{arith}
+use lib.IntN.{_-ℤ_, pos, subℕ}
+use Rattle.spline.proofs.Lowering.{below-stays, lowered-whole-back}
+use Rattle.spline.proofs.Steps.{back, lowered-back}
+use Rattle.spline.specs.Box.{spread}
+use Rattle.spline.specs.Build.{loweredPlace}
+use Rattle.spline.specs.Place.{Axis, Direction, Net, Place, _⊖_, a1, a2, a3, along, diagonal, moves, place}
+use Rattle.spline.specs.Rule.{cell, composed, lowerAbove, lowered, remainder}
+use Rattle.net.proofs.Coordinates.{back-all, back-both, down-cell}
+use Rattle.net.specs.Step.{component, difference, loweredCoordinate, pivotOf, readBack}
+
+-- the pivot lowers as the rule does
+lowered-pivot : (d : Direction) (g : ℕ) (u : Axis → ℕ) → ((b : Axis) → u b ≤ g) → (b : Axis) → lowered d u b ≡ lowerAbove (pivotOf d (u a1) (u a2) (u a3) (suc g)) (u b)
+lowered-pivot (along a1) g u h b = refl
+lowered-pivot (along a2) g u h b = refl
+lowered-pivot (along a3) g u h b = refl
+lowered-pivot diagonal g u h b = sym (below-stays (suc g) (u b) (omega (arith, h b)))
+
+module _ (d : Direction) (g : ℕ) (X : Axis → ℕ) where
+  abbrev pivot : ℕ
+  pivot = pivotOf d (X a1 % suc g) (X a2 % suc g) (X a3 % suc g) (suc g)
+
+  abbrev natural : (Axis → ℕ) → Place
+  natural n = λ b. pos (n b)
+
+  abbrev low : Axis → ℕ
+  low b = loweredCoordinate g pivot (X b)
+
+  -- the lowered place of a natural place
+  pub lowered-natural : loweredPlace d g (natural X) ≡ natural low
+  unfolding loweredCoordinate
+  lowered-natural = fun-ext (λ b. ap (λ (w : ℕ). pos (g * (X b / suc g) + w)) (lowered-pivot d g (λ c. X c % suc g) (λ c. omega (arith, mod-lt (X c) (zero-lt-suc g))) b))
+
+-- the difference at (x, y, z): the lowered coordinates of the place a cell up and a step of d back
+module _ (d : Direction) (g : ℕ) (G : Net) (x y z : ℕ) where
+  abbrev q : Place
+  q = place (pos x) (pos y) (pos z)
+
+  abbrev up : Axis → ℕ
+  up a1 = x + suc g - component d a1
+  up a2 = y + suc g - component d a2
+  up a3 = z + suc g - component d a3
+
+  abbrev lows : Axis → ℕ
+  lows = low d g up
+
+  back-cell : q ⊖ d ≡ back diagonal (suc g) (λ b. pos (up b))
+  back-cell = fun-ext axis
+    where
+      axis : (b : Axis) → (q ⊖ d) b ≡ back diagonal (suc g) (λ b. pos (up b)) b
+      axis a1 = down-cell g x (moves d a1)
+      axis a2 = down-cell g y (moves d a2)
+      axis a3 = down-cell g z (moves d a3)
+
+  lowered-near : loweredPlace d g (q ⊖ d) ≡ back diagonal g (λ b. pos (lows b))
+  lowered-near = ap (loweredPlace d g) back-cell ∙ lowered-whole-back d diagonal g (λ b. pos (up b)) ∙ ap (back diagonal g) (lowered-natural d g up)
+
+  near : loweredPlace d g (q ⊖ d) ≡ place (subℕ (lows a1) g) (subℕ (lows a2) g) (subℕ (lows a3) g)
+  near = lowered-near ∙ fun-ext axis
+    where
+      axis : (b : Axis) → back diagonal g (λ b. pos (lows b)) b ≡ place (subℕ (lows a1) g) (subℕ (lows a2) g) (subℕ (lows a3) g) b
+      axis a1 = back-all g (lows a1)
+      axis a2 = back-all g (lows a2)
+      axis a3 = back-all g (lows a3)
+
+  abbrev far-place : Place
+  far-place = place (subℕ (lows a1) (g + g * component d a1)) (subℕ (lows a2) (g + g * component d a2)) (subℕ (lows a3) (g + g * component d a3))
+
+  far : composed g (cell (suc g) (q ⊖ d) ⊖ d) (lowered d (remainder (suc g) (q ⊖ d))) ≡ far-place
+  far = sym (lowered-back d g (q ⊖ d)) ∙ lowered-whole-back d d g (q ⊖ d) ∙ ap (back d g) lowered-near ∙ fun-ext axis
+    where
+      axis : (b : Axis) → back d g (back diagonal g (λ b. pos (lows b))) b ≡ far-place b
+      axis a1 = back-both g (lows a1) (moves d a1)
+      axis a2 = back-both g (lows a2) (moves d a2)
+      axis a3 = back-both g (lows a3) (moves d a3)
+
+  pub difference-is : difference d g G q ≡ pos (G (place (subℕ (lows a1) g) (subℕ (lows a2) g) (subℕ (lows a3) g))) -ℤ pos (G far-place)
+  difference-is = ap₂ (λ (p r : Place). pos (G p) -ℤ pos (G r)) near far
+
+-- the same of what the code computes: a step v, the coordinates with a cell added, the pivot, the lowered coordinates
+pub difference-code : (d : Direction) (g : ℕ) (W : Axis → ℕ) (s : List ℕ) (x y z v1 v2 v3 p i j k : ℕ)
+    → v1 ≡ component d a1 → v2 ≡ component d a2 → v3 ≡ component d a3
+    → p ≡ pivotOf d ((x + (g + 1) - v1) % (g + 1)) ((y + (g + 1) - v2) % (g + 1)) ((z + (g + 1) - v3) % (g + 1)) (g + 1)
+    → i ≡ loweredCoordinate g p (x + (g + 1) - v1) → j ≡ loweredCoordinate g p (y + (g + 1) - v2) → k ≡ loweredCoordinate g p (z + (g + 1) - v3)
+    → pos (readBack W s i j k g g g) -ℤ pos (readBack W s i j k (g + g * v1) (g + g * v2) (g + g * v3)) ≡ difference d g (spread W s) (place (pos x) (pos y) (pos z))
+difference-code d g W s x y z v1 v2 v3 p i j k e1 e2 e3 ep ei ej ek =
+    rw (ei, ej, ek, ep, e1, e2, e3, add-one g) (sym (difference-is d g (spread W s) x y z))

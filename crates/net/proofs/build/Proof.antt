@@ -1,0 +1,81 @@
+use mathlib.Core.Path.{_∙_, _≡_, ap, sym}
+use borrow.Author.Needs.{needs}
+use lib.ListN.{length}
+use denote.Ref.{now}
+use Rattle.sums.specs.Fill.{filled}
+use Rattle.spline.specs.Box.{netList}
+use Rattle.unit.specs.Unit.{withNet}
+use Rattle.unit.specs.declared.Checked.the-variants.{Passed}
+use Rattle.unit.specs.declared.UnitAnswer.the-variants.{Changed}
+use Rattle.net.proofs.Accepted.{BuildAccepted, build-accepted}
+use Rattle.net.proofs.build.Statement.{statement}
+use Rattle.net.specs.Build.{buildAnswer, buildNet, buildWork}
+use Rattle.net.specs.Order.{buildChecks}
+use Rattle.net.proofs.build.Tie as tie
+
+-- the build has passed its checks
+module _ (c : tie.After-enum-told) where
+  abbrev start : tie.Start
+  start = c .before .before .before .before .before
+
+  passed : buildChecks (now (start .args .order)) (length (now (start .args .net))) (length (now (start .args .work))) ≡ Passed
+  passed = sym (c .before .before .check-build .ensures) ∙ c .enum-told .given .1
+
+  taken : BuildAccepted (now (start .args .order)) (length (now (start .args .net))) (length (now (start .args .work)))
+  taken = build-accepted (now (start .args .order)) _ _ passed
+
+check-build-requires : tie.Need-check-build-requires
+check-build-requires c κs = search needs
+
+enum-known-refusal : tie.Need-enum-known-refusal
+enum-known-refusal c = search needs
+
+returns : tie.Need-returns
+unfolding buildAnswer buildNet buildWork
+returns c =
+    let e = sym (c .before .before .before .check-build .ensures) ∙ c .before .refusal .given .1 in
+    (simp e, (simp e, simp e))
+
+enum-told : tie.Need-enum-told
+enum-told c = search needs
+
+run-requires : tie.Need-run-requires
+run-requires c κs =
+    let r = taken (c .before .before) in
+    (r .good, r .net-room, r .work-room)
+
+counts-of-requires : tie.Need-counts-of-requires
+counts-of-requires c κs = taken (c .before .before .before .before .before .before) .good
+
+with-net-requires : tie.Need-with-net-requires
+with-net-requires c κs = search needs
+
+same-length : tie.Need-same-length
+same-length c = search needs
+
+same-length-2 : tie.Need-same-length-2
+same-length-2 c = search needs
+
+returns-2 : tie.Need-returns-2
+unfolding buildAnswer buildNet buildWork filled netList
+returns-2 c =
+    let r = c .before .before .before .before .before .before .before .before in
+    let f = c .before .before .before .before .before .run in (
+      simp (passed r) (ap Changed (c .with-net .ensures ∙ ap (withNet (start r .args .unit)) (c .before .counts-of .ensures .0))),
+      (simp (passed r) (f .ensures .0), simp (passed r) (f .ensures .1)),
+    )
+
+pub build-spec : {M : Type 1} → statement M
+build-spec =
+    tie.close
+    (tie.spec
+    check-build-requires
+    enum-known-refusal
+    returns
+    enum-told
+    run-requires
+    counts-of-requires
+    with-net-requires
+    same-length
+    same-length-2
+    returns-2)

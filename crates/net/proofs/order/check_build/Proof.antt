@@ -1,0 +1,103 @@
+use mathlib.Core.List.{List}
+use mathlib.Core.Path.{_∙_, _≡_, ap, sym}
+use Prim.Native.Nat.{_<_, _≤_, ℕ}
+use native.Mathlib.Omega.{arith}
+use borrow.Author.Needs.{needs}
+use borrow.Author.Tests.{le-ltb, lt-ltb}
+use denote.Ref.{now}
+use Rattle.spline.specs.Box.{places, width}
+use Rattle.spline.specs.Multiplicities.{Multiplicities}
+use Rattle.unit.specs.declared.Checked.the-variants.{Passed}
+use Rattle.net.proofs.Accepted.{order-accepted}
+use Rattle.net.proofs.order.check_build.Statement.{statement}
+use Rattle.net.specs.Order.{buildChecks, orderChecks, orderPlaces}
+use Rattle.net.specs.Shape.{widths}
+use Rattle.net.specs.declared.shape.Shape.{Shape}
+use Rattle.net.proofs.order.check_build.Tie as tie
+
+-- the order has passed its checks
+module _ (c : tie.After-enum-told) where
+  abbrev order : List ℕ
+  order = now (c .before .before .before .before .args .order)
+
+  passed : orderChecks order ≡ Passed
+  passed = sym (c .before .before .check-order .ensures) ∙ c .enum-told .given .1
+
+-- the places of its box have been counted
+module _ (c : tie.After-places-of) where
+  abbrev told : tie.After-enum-told
+  told = c .before .before .before
+
+  room : c .places-of .result ≡ orderPlaces (order told)
+  room = c .places-of .ensures .0 ∙ ap (λ (s : Shape). places (widths s)) (c .before .shape-of .ensures .0) ∙ ap (λ (v : Multiplicities). places (width v)) (c .before .before .counts-of .ensures .0)
+
+check-order-requires : tie.Need-check-order-requires
+check-order-requires c κs = search needs
+
+enum-known-refusal : tie.Need-enum-known-refusal
+enum-known-refusal c = search needs
+
+returns : tie.Need-returns
+unfolding buildChecks
+returns c = simp (sym (c .before .before .before .check-order .ensures) ∙ c .before .refusal .given .1)
+
+enum-told : tie.Need-enum-told
+enum-told c = search needs
+
+counts-of-requires : tie.Need-counts-of-requires
+counts-of-requires c κs = order-accepted _ (passed c)
+
+shape-of-requires : tie.Need-shape-of-requires
+shape-of-requires c κs = search needs
+
+places-of-requires : tie.Need-places-of-requires
+places-of-requires c κs = search needs
+
+stop-requires : tie.Need-stop-requires
+stop-requires c κs = search needs
+
+returns-2 : tie.Need-returns-2
+unfolding buildChecks
+returns-2 c =
+    let r = c .before .before in
+    let a = told r .before .before .before .before .args in
+    let f : a .net < orderPlaces (order (told r)) = omega (arith, room r) in
+    simp (passed (told r), lt-ltb (a .net) (orderPlaces (order (told r))) f) (c .stop .ensures)
+
+stop-requires-2 : tie.Need-stop-requires-2
+stop-requires-2 c κs = search needs
+
+returns-3 : tie.Need-returns-3
+unfolding buildChecks
+returns-3 c =
+    let r = c .before .before .before in
+    let a = told r .before .before .before .before .args in
+    let f : orderPlaces (order (told r)) ≤ a .net = omega (arith, room r) in
+    let g : a .work < orderPlaces (order (told r)) = omega (arith, room r) in
+    simp (passed (told r), le-ltb (a .net) (orderPlaces (order (told r))) f, lt-ltb (a .work) (orderPlaces (order (told r))) g) (c .stop2 .ensures)
+
+returns-4 : tie.Need-returns-4
+unfolding buildChecks
+returns-4 c =
+    let r = c .before .before in
+    let a = told r .before .before .before .before .args in
+    let f : orderPlaces (order (told r)) ≤ a .net = omega (arith, room r) in
+    let g : orderPlaces (order (told r)) ≤ a .work = omega (arith, room r) in
+    simp (passed (told r), le-ltb (a .net) (orderPlaces (order (told r))) f, le-ltb (a .work) (orderPlaces (order (told r))) g)
+
+pub check-build-spec : {M : Type 1} → statement M
+check-build-spec =
+    tie.close
+    (tie.spec
+    check-order-requires
+    enum-known-refusal
+    returns
+    enum-told
+    counts-of-requires
+    shape-of-requires
+    places-of-requires
+    stop-requires
+    returns-2
+    stop-requires-2
+    returns-3
+    returns-4)

@@ -1,0 +1,86 @@
+use mathlib.Core.Bool.{false, true}
+use mathlib.Core.Path.{_∙_, _≡_, ap, sym}
+use Prim.Native.Nat.{_-_, _≤_, ℕ}
+use native.Mathlib.Nat.{le-antisymm}
+use native.Mathlib.Omega.{arith}
+use borrow.Author.Tests.{le-leb, lt-leb}
+use lib.ListN.{getD, length}
+use denote.Ref.{now}
+use Rattle.sums.proofs.Search.{first-hit, first-none, first-zero}
+use Rattle.sums.specs.Search.{first, nowhere}
+use Rattle.unit.specs.Checks.{refuseAt}
+use Rattle.unit.specs.declared.Checked.the-variants.{Passed}
+use Rattle.net.proofs.order.check_bytes.Statement.{statement}
+use Rattle.net.specs.Order.{badByte}
+use Rattle.net.proofs.order.check_bytes.Tie as tie
+
+abbrev Inv-loop : tie.InvT-loop
+Inv-loop order i₀ i = (i ≤ length order) × (first i (λ k. badByte (getD order k 0)) ≡ nowhere)
+
+abbrev μ-loop : tie.MeasureT-loop
+μ-loop order i₀ i = length order - i
+
+loop-holds : tie.Need-loop-holds Inv-loop μ-loop
+loop-holds c = (omega arith, first-zero _)
+
+shared-slice-read-if1 : tie.Need-shared-slice-read-if1 Inv-loop μ-loop
+shared-slice-read-if1 c = omega arith
+
+stop-requires : tie.Need-stop-requires Inv-loop μ-loop
+stop-requires c κs = tt
+
+returns : tie.Need-returns Inv-loop μ-loop
+returns c =
+    let o = now (c .before .before .before .before .before .before .args .order) in
+    let l = c .before .before .before .before .loop in
+    let e : badByte (getD o (l .i) 0) ≡ true = rw (lt-leb 1 (getD o (l .i) 0) (omega arith)) in
+    c .stop .ensures ∙ sym (ap (λ f. refuseAt 2 f Passed) (first-hit (λ k. badByte (getD o k 0)) (length o) (l .i) (l .inv .1) e (omega arith)))
+
+shared-slice-read-if2 : tie.Need-shared-slice-read-if2 Inv-loop μ-loop
+shared-slice-read-if2 c = omega arith
+
+stop-requires-2 : tie.Need-stop-requires-2 Inv-loop μ-loop
+stop-requires-2 c κs = tt
+
+returns-2 : tie.Need-returns-2 Inv-loop μ-loop
+returns-2 c =
+    let o = now (c .before .before .before .before .before .before .before .before .args .order) in
+    let l = c .before .before .before .before .before .before .loop in
+    let e : badByte (getD o (l .i) 0) ≡ true = rw (le-leb 1 (getD o (l .i) 0) (omega arith), lt-leb (getD o (l .i) 0) 4 (omega arith)) in
+    c .stop2 .ensures ∙ sym (ap (λ f. refuseAt 2 f Passed) (first-hit (λ k. badByte (getD o k 0)) (length o) (l .i) (l .inv .1) e (omega arith)))
+
+add-i : tie.Need-add-i Inv-loop μ-loop
+add-i c = omega arith
+
+loop-less : tie.Need-loop-less Inv-loop μ-loop
+loop-less c = omega arith
+
+loop-again : tie.Need-loop-again Inv-loop μ-loop
+loop-again c =
+    let o = now (c .before .before .before .before .before .before .before .args .order) in
+    let l = c .before .before .before .before .before .loop in
+    let e : badByte (getD o (l .i) 0) ≡ false = rw (le-leb 1 (getD o (l .i) 0) (omega arith), le-leb (getD o (l .i) 0) 4 (omega arith)) in
+    (omega arith, first-none (λ k. badByte (getD o k 0)) (l .i) (l .inv .1) e)
+
+returns-3 : tie.Need-returns-3 Inv-loop μ-loop
+returns-3 c =
+    let o = now (c .before .before .before .args .order) in
+    sym (ap (λ f. refuseAt 2 f Passed) (ap (λ (k : ℕ). first k (λ j. badByte (getD o j 0))) (sym (le-antisymm (c .before .loop .inv .0) (c .loop-test .left))) ∙ c .before .loop .inv .1))
+
+pub check-bytes-spec : {M : Type 1} → statement M
+check-bytes-spec =
+    tie.close
+    (tie.spec
+    Inv-loop
+    μ-loop
+    loop-holds
+    shared-slice-read-if1
+    stop-requires
+    returns
+    shared-slice-read-if2
+    stop-requires-2
+    returns-2
+    add-i
+    loop-less
+    loop-again
+    returns-3)

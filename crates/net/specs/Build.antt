@@ -1,0 +1,34 @@
+-- What a build answers and leaves in its slices: document 01, section "Building".
+use mathlib.Core.Path.{_≡_}
+use mathlib.Core.List.{List, _++_}
+use Prim.Native.Nat.{ℕ}
+use lib.IntN.{ℤ}
+use lib.ListN.{length, drop}
+use Rattle.spline.specs.Build.{orderNet}
+use Rattle.spline.specs.Multiplicities.{orderMultiplicities}
+use Rattle.spline.specs.Box.{netList}
+use Rattle.unit.specs.declared.Unit.{Unit}
+use Rattle.unit.specs.declared.UnitAnswer.{UnitAnswer}
+use Rattle.unit.specs.declared.UnitAnswer.the-variants.{Changed, Refused}
+use Rattle.unit.specs.declared.Checked.{Checked}
+use Rattle.unit.specs.declared.Checked.the-variants.{Passed, Stopped}
+use Rattle.unit.specs.Unit.{withNet}
+use Rattle.unit.specs.Checks.{passedOr}
+use Rattle.net.specs.Order.{orderWidth, orderPlaces, buildChecks}
+
+-- "and the unit has that net", for slices of these lengths
+unfoldable pub buildAnswer : Unit → List ℕ → ℕ → ℕ → UnitAnswer
+buildAnswer u order net work = passedOr (buildChecks order net work) (Changed (withNet u (orderMultiplicities order))) Refused
+
+-- "The first W1×W2×W3 places of the net slice then hold the net, the rest is unchanged"
+unfoldable pub buildNet : List ℕ → List ℕ → ℕ → List ℕ
+buildNet order net work =
+    passedOr (buildChecks order (length net) work) (netList (orderWidth order) (orderNet order) ++ drop (orderPlaces order) net) (λ _. net)
+
+-- "The work slice afterwards is free", and a refused build leaves it as found
+abbrev pub workAfter : Checked → List ℤ → List ℤ → Type 0
+workAfter Passed before after = length after ≡ length before
+workAfter (Stopped r) before after = after ≡ before
+
+unfoldable pub buildWork : List ℕ → ℕ → List ℤ → List ℤ → Type 0
+buildWork order net before after = workAfter (buildChecks order net (length before)) before after

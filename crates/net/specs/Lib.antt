@@ -1,0 +1,4 @@
+pub mod Shape
+pub mod Step
+pub mod Order
+pub mod Build

