@@ -8,9 +8,15 @@ use borrow.Author.Tests.{ltb-false}
 use lib.Dec.{ltb}
 use lib.ListN.{getD, length}
 use Rattle.sums.specs.Search.{first}
+use Rattle.spline.proofs.Multiplicities.{Positive}
+use Rattle.spline.specs.Multiplicities.{allowed}
 use Rattle.unit.proofs.Checks.{at-passed, if-passed, then-passed}
+use Rattle.unit.proofs.Limits.{allowed-limits}
 use Rattle.unit.specs.declared.Checked.the-variants.{Passed}
+use Rattle.net.proofs.DefinedBytes.{order}
 use Rattle.net.specs.Order.{GoodOrder, badByte, buildChecks, orderChecks, orderPlaces}
+use Rattle.net.specs.Shape.{Limited, counted}
+use Rattle.net.specs.declared.shape.Counts.{Counts}
 
 pub order-accepted : (order : List ℕ) → orderChecks order ≡ Passed → GoodOrder order
 unfolding orderChecks
@@ -23,7 +29,7 @@ pub record BuildAccepted (order : List ℕ) (net work : ℕ) : Type 0 where
   pub net-room : orderPlaces order ≤ net
   pub work-room : orderPlaces order ≤ work
 
-or-false : (a b : Bool) → (a || b) ≡ false → (a ≡ false) × (b ≡ false)
+pub or-false : (a b : Bool) → (a || b) ≡ false → (a ≡ false) × (b ≡ false)
 or-false true b h = let z : _≡_ {A = ℕ} 0 1 = cc in absurd (omega arith)
 or-false false b h = (refl, h)
 
@@ -33,3 +39,12 @@ build-accepted order net work h =
     let e = then-passed (orderChecks order) _ h in
     let f = or-false (ltb net (orderPlaces order)) (ltb work (orderPlaces order)) (if-passed 4 (ltb net (orderPlaces order) || ltb work (orderPlaces order)) Passed (e .1) .0) in
     record { good = order-accepted order (e .0); net-room = ltb-false net (orderPlaces order) (f .0); work-room = ltb-false work (orderPlaces order) (f .1) }
+
+-- multiplicities within their limits
+pub counts-limited : (c : Counts) → allowed (counted c) ≡ true → Limited c 12
+counts-limited c h =
+    let l = allowed-limits (counted c) h in
+    record { least1 = l .least1; least2 = l .least2; least3 = l .least3; least4 = l .least4; most = l .sum }
+
+pub limited-positive : (c : Counts) (n : ℕ) → Limited c n → Positive (counted c)
+limited-positive c n l = record { p1 = l .least1; p2 = l .least2; p3 = l .least3; p4 = l .least4 }

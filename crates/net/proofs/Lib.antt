@@ -6,3 +6,4 @@ pub mod Orders
 pub mod Bounds
 pub mod TakenUp
 pub mod Accepted
+pub mod DefinedBytes

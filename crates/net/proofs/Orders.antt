@@ -21,12 +21,13 @@ use Rattle.spline.specs.Box.{netList, spread, width}
 use Rattle.spline.specs.Build.{built, direction, orderNet, simple, stepped}
 use Rattle.spline.specs.Multiplicities.{Multiplicities, degree, extent, more, multiplicitiesOf, orderMultiplicities}
 use Rattle.spline.specs.Place.{Axis, Direction, Place, a1, a2, a3, along, diagonal}
+use Rattle.net.proofs.DefinedBytes.{order}
 use Rattle.net.specs.Order.{GoodOrder, badByte, orderPlaces, orderWidth}
 use Rattle.net.specs.Shape.{Limited, counted}
 use Rattle.net.specs.Step.{AtMost}
 use Rattle.net.specs.declared.shape.Counts.{Counts}
 
-not-true : (t : Bool) → not t ≡ false → t ≡ true
+pub not-true : (t : Bool) → not t ≡ false → t ≡ true
 not-true true h = refl
 not-true false h = sym h
 

@@ -24,7 +24,7 @@ use Rattle.net.specs.Step.{AtMost, NetNumber, NetSums, difference, edgeS
 use Rattle.net.specs.declared.shape.Counts.{Counts}
 use Rattle.net.specs.declared.shape.Shape.{Shape}
 
-shape-widths : (v : Multiplicities) → widths (shapeOf v) ≡ width v
+pub shape-widths : (v : Multiplicities) → widths (shapeOf v) ≡ width v
 shape-widths v = fun-ext axis
   where
     axis : (b : Axis) → widths (shapeOf v) b ≡ width v b

@@ -2,3 +2,4 @@ pub mod Shape
 pub mod Step
 pub mod Order
 pub mod Build
+pub mod Inspect

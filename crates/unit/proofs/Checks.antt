@@ -1,6 +1,6 @@
 -- Checks that passed, taken apart.
 use mathlib.Core.Bool.{Bool, false, true}
-use mathlib.Core.Path.{_≡_, refl}
+use mathlib.Core.Path.{_≡_, refl, sym}
 use Prim.Native.Nat.{ℕ}
 use native.Mathlib.Omega.{arith}
 use Rattle.sums.specs.Search.{Found, at, nowhere}
@@ -23,3 +23,8 @@ at-passed n (at i) rest h = stopped-passed (refusal n i) h
 pub then-passed : (start rest : Checked) → andThen start rest ≡ Passed → (start ≡ Passed) × (rest ≡ Passed)
 then-passed Passed rest h = (refl, h)
 then-passed (Stopped r) rest h = stopped-passed r h
+
+-- a check that stops, stops whatever would follow
+pub if-stopped : (n : ℕ) (applies : Bool) (rest : Checked) (r : Refusal) → refuseIf n applies Passed ≡ Stopped r → refuseIf n applies rest ≡ Stopped r
+if-stopped n true rest r h = h
+if-stopped n false rest r h = stopped-passed r (sym h)
