@@ -1,0 +1,5 @@
+pub mod Orders
+pub mod Rule
+pub mod Plain
+pub mod Inspector
+pub mod OneDirection
