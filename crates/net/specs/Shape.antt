@@ -1,8 +1,8 @@
 -- Multiplicities and boxes as the code holds them.
-use Prim.Native.Nat.{ℕ, _+_, _*_, _≤_}
+use Prim.Native.Nat.{ℕ, _+_, _≤_}
 use Rattle.spline.specs.Place.{Axis, a1, a2, a3}
 use Rattle.spline.specs.Multiplicities.{Multiplicities, multiplicities, degree}
-use Rattle.spline.specs.Box.{width, places}
+use Rattle.spline.specs.Box.{width}
 use Rattle.net.specs.declared.shape.Counts.{Counts}
 use Rattle.net.specs.declared.shape.Shape.{Shape}
 

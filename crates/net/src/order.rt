@@ -1,6 +1,5 @@
 // Orders: their checks, and the multiplicities that they lead to.
 ghost use mathlib.Core.Path.{_≡_};
-ghost use Prim.Native.Nat.{_≤_};
 ghost use lib.ListN.{length, getD};
 ghost use Rattle.sums.specs.Search.{first};
 ghost use Rattle.spline.specs.Multiplicities.{orderMultiplicities};

@@ -45,9 +45,6 @@ Below N (negsuc n) = N ≤ n
 pub record Vanishes (N : ℕ) (C : Net) : Type 0 where
   pub far : (q : Place) (b : Axis) → Below N (q b) → C q ≡ 0
 
-below-mono : (N N′ : ℕ) (z : ℤ) → N′ ≤ N → Below N z → Below N′ z
-below-mono N N′ (negsuc n) l h = omega arith
-
 back-neg : (n k : ℕ) → backIf n true (negsuc k) ≡ negsuc (k + n)
 back-neg zero k = ap negsuc (omega arith)
 back-neg (suc n) k = back-neg n (suc k) ∙ ap negsuc (omega arith)

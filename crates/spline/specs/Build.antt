@@ -2,7 +2,7 @@
 use mathlib.Core.List.{List, [], _∷_, map}
 use Prim.Native.Nat.{ℕ, zero, suc, _+_, _*_}
 use lib.IntN.{ℤ, pos, negsuc}
-use Rattle.spline.specs.Place.{Axis, a1, a2, a3, Direction, along, diagonal, Place, Net, _⊖_}
+use Rattle.spline.specs.Place.{a1, a2, a3, Direction, along, diagonal, Place, Net, _⊖_}
 use Rattle.spline.specs.Rule.{lowered, cell, remainder, composed, Obeys, ZeroFar}
 
 abbrev pub isOne : ℤ → ℕ

@@ -1,6 +1,6 @@
 -- Axes, directions, places over ℤ, and their division by the degree.
 use mathlib.Core.Bool.{Bool, true, false}
-use Prim.Native.Nat.{ℕ, suc, _*_, _-_, _/_, _%_}
+use Prim.Native.Nat.{ℕ, suc, _-_, _/_, _%_}
 use lib.IntN.{ℤ, pos, negsuc, sucℤ, predℤ, _+ℤ_, _*ℤ_}
 
 pub data Axis : Type 0 where

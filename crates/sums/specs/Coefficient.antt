@@ -1,5 +1,5 @@
 -- Factorials, binomial and multinomial coefficients.
-use Prim.Native.Nat.{ℕ, zero, suc, _+_, _*_, _-_, _/_}
+use Prim.Native.Nat.{ℕ, zero, suc, _*_, _-_, _/_}
 
 -- n!
 unfoldable pub factorial : ℕ → ℕ

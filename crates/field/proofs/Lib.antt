@@ -1,0 +1,4 @@
+pub mod Twos
+pub mod Entries
+pub mod Accepted
+pub mod RoundTrip

@@ -1,0 +1,75 @@
+use mathlib.Core.Bool.{Bool}
+use mathlib.Core.List.{List}
+use mathlib.Core.Path.{_≡_}
+use Prim.Native.Nat.{_-_, _≤_, ℕ}
+use native.Mathlib.Nat.{le-antisymm}
+use native.Mathlib.Omega.{arith}
+use borrow.Author.Tests.{le-ltb, lt-ltb}
+use lib.Dec.{ltb}
+use denote.Ref.{now}
+use Rattle.sums.proofs.Search.{first-hit, first-none, first-zero}
+use Rattle.sums.specs.Search.{at, first, nowhere}
+use Rattle.field.proofs.check_limit.Statement.{statement}
+use Rattle.field.specs.File.{entry}
+use Rattle.field.proofs.check_limit.Tie as tie
+
+-- the entries that are above the limit
+abbrev large : List ℕ → ℕ → ℕ → Bool
+large file start i = ltb 32767 (entry file start i)
+
+abbrev Inv-loop : tie.InvT-loop
+Inv-loop file start n i₀ i = (i ≤ n) × (first i (large file start) ≡ nowhere)
+
+abbrev μ-loop : tie.MeasureT-loop
+μ-loop file start n i₀ i = n - i
+
+loop-holds : tie.Need-loop-holds Inv-loop μ-loop
+loop-holds c = (omega arith, first-zero _)
+
+mul-word-at : tie.Need-mul-word-at Inv-loop μ-loop
+mul-word-at c = omega arith
+
+add-word-at : tie.Need-add-word-at Inv-loop μ-loop
+add-word-at c = omega arith
+
+word-at-requires : tie.Need-word-at-requires Inv-loop μ-loop
+word-at-requires c κs = omega arith
+
+returns : tie.Need-returns Inv-loop μ-loop
+returns c =
+    let b = c .before in
+    let a = b .before .before .before .before .args in
+    simp
+    (first-hit (large (now (a .file)) (a .start)) (a .n) (b .before .before .loop .i) (b .before .before .loop .inv .1) (lt-ltb 32767 _ (rw (b .word-at .ensures) at (c .if1 .taken))) (omega arith))
+
+add-i : tie.Need-add-i Inv-loop μ-loop
+add-i c = omega arith
+
+loop-less : tie.Need-loop-less Inv-loop μ-loop
+loop-less c = omega arith
+
+loop-again : tie.Need-loop-again Inv-loop μ-loop
+loop-again c =
+    let b = c .before in
+    (omega arith, first-none _ _ (b .before .before .loop .inv .1) (le-ltb 32767 _ (rw (b .word-at .ensures) at (c .if1 .left))))
+
+returns-2 : tie.Need-returns-2 Inv-loop μ-loop
+returns-2 c =
+    let e = le-antisymm (c .before .loop .inv .0) (c .loop-test .left) in
+    simp (← e, c .before .loop .inv .1)
+
+pub check-limit-spec : {M : Type 1} → statement M
+check-limit-spec =
+    tie.close
+    (tie.spec
+    Inv-loop
+    μ-loop
+    loop-holds
+    mul-word-at
+    add-word-at
+    word-at-requires
+    returns
+    add-i
+    loop-less
+    loop-again
+    returns-2)

@@ -1,0 +1,133 @@
+use mathlib.Core.List.{List}
+use mathlib.Core.Path.{_∙_, _≡_, ap, sym}
+use Prim.Native.Nat.{_*_, _+_, _≤_, ℕ}
+use native.Mathlib.Omega.{arith}
+use borrow.Author.Needs.{needs}
+use lib.IntN.{ℤ}
+use lib.ListN.{length}
+use denote.Ref.{now}
+use Rattle.unit.specs.declared.Checked.the-variants.{Passed}
+use Rattle.unit.specs.declared.UnitAnswer.the-variants.{Changed}
+use Rattle.field.proofs.Accepted.{LoadAccepted, load-accepted}
+use Rattle.field.proofs.Entries.{counted, counted-fill}
+use Rattle.field.proofs.load.Statement.{statement}
+use Rattle.field.specs.File.{correction, entryCount, uncertaintiesStart}
+use Rattle.field.specs.Load.{loadAnswer, loadChecks, loadCorrections, loadUncertainties}
+use Rattle.field.proofs.load.Tie as tie
+
+-- the load has passed its checks
+module _ (c : tie.After-enum-told) where
+  abbrev start : tie.Start
+  start = c .before .before .before .before .before
+
+  abbrev file : List ℕ
+  file = now (start .args .file)
+
+  abbrev corrections : List ℤ
+  corrections = now (start .args .corrections)
+
+  abbrev uncertainties : List ℕ
+  uncertainties = now (start .args .uncertainties)
+
+  passed : loadChecks file (length corrections) (length uncertainties) ≡ Passed
+  passed = sym (c .before .before .check-load .ensures) ∙ c .enum-told .given .1
+
+  taken : LoadAccepted file (length corrections) (length uncertainties)
+  taken = load-accepted file _ _ passed
+
+-- the entries have been counted
+module _ (c : tie.After-entries) where
+  abbrev checked : tie.After-enum-told
+  checked = c .before .before
+
+  abbrev n : ℕ
+  n = c .entries .result
+
+  count : n ≡ entryCount (file checked)
+  count = counted _ (file checked) (c .entries .ensures) (c .before .read .ensures)
+
+  in-file : uncertaintiesStart n + 2 * n ≤ length (file checked)
+  in-file = omega (arith, count, taken checked .layout .exact)
+
+  rooms : (n ≤ length (corrections checked)) × (n ≤ length (uncertainties checked))
+  rooms = omega (arith, count, taken checked .room1, taken checked .room2)
+
+check-load-requires : tie.Need-check-load-requires
+check-load-requires c κs = search needs
+
+enum-known-refusal : tie.Need-enum-known-refusal
+enum-known-refusal c = search needs
+
+returns : tie.Need-returns
+unfolding loadAnswer loadCorrections loadUncertainties
+returns c =
+    let e = sym (c .before .before .before .check-load .ensures) ∙ c .before .refusal .given .1 in
+    (simp e, (simp e, simp e))
+
+enum-told : tie.Need-enum-told
+enum-told c = search needs
+
+read-requires : tie.Need-read-requires
+read-requires c κs = taken c .layout .header
+
+entries-requires : tie.Need-entries-requires
+entries-requires c κs = search needs
+
+mul-second : tie.Need-mul-second
+mul-second c = omega (arith, in-file c)
+
+add-second : tie.Need-add-second
+add-second c = omega (arith, in-file c)
+
+read-corrections-requires : tie.Need-read-corrections-requires
+read-corrections-requires c κs =
+    let b = c .before in
+    (omega (arith, in-file b), omega (arith, rooms b))
+
+read-uncertainties-requires : tie.Need-read-uncertainties-requires
+read-uncertainties-requires c κs =
+    let b = c .before .before .before .before in
+    (omega (arith, in-file b), omega (arith, rooms b))
+
+with-block-requires : tie.Need-with-block-requires
+with-block-requires c κs = search needs
+
+same-length : tie.Need-same-length
+same-length c = search needs
+
+same-length-2 : tie.Need-same-length-2
+same-length-2 c = search needs
+
+returns-2 : tie.Need-returns-2
+unfolding loadAnswer loadCorrections loadUncertainties correction
+returns-2 c =
+    let read-u = c .before .before .before .read-uncertainties in
+    let read-c = c .before .before .before .before .before .before .read-corrections in
+    let b = c .before .before .before .before .before .before .before .before in
+    let sizes = b .before .read .ensures in
+    let e = passed (checked b) in (
+      simp e (ap Changed (c .with-block .ensures ∙ simp (sizes .0, sizes .1, sizes .2))),
+      (
+        simp (e, ← (count b)) (read-c .ensures),
+        simp e (counted-fill (file (checked b)) (uncertainties (checked b)) (count b) (read-u .ensures)),
+      ),
+    )
+
+pub load-spec : {M : Type 1} → statement M
+load-spec =
+    tie.close
+    (tie.spec
+    check-load-requires
+    enum-known-refusal
+    returns
+    enum-told
+    read-requires
+    entries-requires
+    mul-second
+    add-second
+    read-corrections-requires
+    read-uncertainties-requires
+    with-block-requires
+    same-length
+    same-length-2
+    returns-2)

@@ -1,0 +1,104 @@
+use mathlib.Core.List.{List}
+use mathlib.Core.Path.{_∙_, _≡_, ap, refl, sym}
+use Prim.Native.Nat.{_-_, _≤_, ℕ}
+use native.Mathlib.Nat.{le-antisymm}
+use native.Mathlib.Omega.{arith}
+use borrow.Author.Needs.{needs, sfits-of}
+use lib.IntN.{ℤ}
+use lib.ListN.{length, length-set, set}
+use mir.Facts.{toZ-ofZ}
+use mir.Syntax.{w16}
+use mir.Val.{ofZ, toZ}
+use denote.Ref.{now}
+use Rattle.sums.proofs.Fill.{fill-none, fill-store}
+use Rattle.sums.specs.Fill.{filled}
+use Rattle.field.proofs.read_corrections.Statement.{statement}
+use Rattle.field.specs.File.{entry, signed}
+use Rattle.field.proofs.read_corrections.Tie as tie
+
+-- the number that an entry's bits stand for
+abbrev value : List ℕ → ℕ → ℕ → ℤ
+value file start i = signed (entry file start i)
+
+abbrev Inv-loop : tie.InvT-loop
+Inv-loop file start n corrections₀ i₀ corrections i = (i ≤ n) × (corrections ≡ filled (value file start) i corrections₀) × (length corrections ≡ length corrections₀)
+
+abbrev μ-loop : tie.MeasureT-loop
+μ-loop file start n corrections₀ i₀ corrections i = n - i
+
+-- at the end of a turn
+module _ (c : tie.After-to-signed Inv-loop μ-loop) where
+  abbrev start : tie.Start Inv-loop μ-loop
+  start = c .before .before .before .before .before
+
+  abbrev i : ℕ
+  i = c .before .before .before .loop .i
+
+  abbrev stored : ℤ
+  stored = toZ w16 (ofZ w16 (c .to-signed .result))
+
+  read : stored ≡ value (now (start .args .file)) (start .args .start) i
+  read = toZ-ofZ (sfits-of (c .to-signed .ok)) ∙ c .to-signed .ensures ∙ ap signed (c .before .word-at .ensures)
+
+loop-holds : tie.Need-loop-holds Inv-loop μ-loop
+loop-holds c = (omega arith, sym (fill-none _ _), refl)
+
+mul-word-at : tie.Need-mul-word-at Inv-loop μ-loop
+mul-word-at c = omega arith
+
+add-word-at : tie.Need-add-word-at Inv-loop μ-loop
+add-word-at c = omega arith
+
+word-at-requires : tie.Need-word-at-requires Inv-loop μ-loop
+word-at-requires c κs = omega arith
+
+to-signed-requires : tie.Need-to-signed-requires Inv-loop μ-loop
+to-signed-requires c κs = search needs
+
+mul-t11 : tie.Need-mul-t11 Inv-loop μ-loop
+mul-t11 c = omega arith
+
+slice-set-from-corrections : tie.Need-slice-set-from-corrections Inv-loop μ-loop
+slice-set-from-corrections c = omega arith
+
+add-i : tie.Need-add-i Inv-loop μ-loop
+add-i c = omega arith
+
+loop-less : tie.Need-loop-less Inv-loop μ-loop
+loop-less c = omega arith
+
+loop-again : tie.Need-loop-again Inv-loop μ-loop
+loop-again c =
+    let inv = c .before .before .before .loop .inv in (
+      omega arith,
+      ap (λ (l : List ℤ). set l (i c) (stored c)) (inv .1)
+          ∙ fill-store _ (i c) _ (stored c) (omega arith) (read c),
+      simp length-set (inv .2),
+    )
+
+same-length : tie.Need-same-length Inv-loop μ-loop
+same-length c = c .before .loop .inv .2
+
+returns : tie.Need-returns Inv-loop μ-loop
+returns c =
+    let e = le-antisymm (c .before .loop .inv .0) (c .loop-test .left) in
+    rw (← e) (c .before .loop .inv .1)
+
+pub read-corrections-spec : {M : Type 1} → statement M
+read-corrections-spec =
+    tie.close
+    (tie.spec
+    Inv-loop
+    μ-loop
+    loop-holds
+    mul-word-at
+    add-word-at
+    word-at-requires
+    to-signed-requires
+    mul-t11
+    slice-set-from-corrections
+    add-i
+    loop-less
+    loop-again
+    same-length
+    returns)

@@ -1,0 +1,59 @@
+-- What a load answers and leaves in its slices: document 01, section "Field file and block".
+use mathlib.Core.Bool.{_||_, not}
+use mathlib.Core.List.{List}
+use Prim.Native.Nat.{ℕ}
+use lib.Dec.{eqb, ltb}
+use lib.IntN.{ℤ}
+use lib.ListN.{length}
+use Rattle.sums.specs.Fill.{filled}
+use Rattle.sums.specs.Search.{first}
+use Rattle.unit.specs.Checks.{andThen, passedOr, refuseAt, refuseIf}
+use Rattle.unit.specs.Unit.{sizesAllowed, withBlock}
+use Rattle.unit.specs.declared.Checked.{Checked}
+use Rattle.unit.specs.declared.Checked.the-variants.{Passed}
+use Rattle.unit.specs.declared.Unit.{Unit}
+use Rattle.unit.specs.declared.UnitAnswer.{UnitAnswer}
+use Rattle.unit.specs.declared.UnitAnswer.the-variants.{Changed, Refused}
+use Rattle.field.specs.File.{correction, entryCount, fileLength, headerLength, size1, size2, size3, uncertainty}
+
+-- "5 file under 6 bytes", "6 a size or the product out of limits", "7 length is not 6+4×n"
+unfoldable pub layoutChecks : List ℕ → Checked
+layoutChecks file =
+    refuseIf 5 (ltb (length file) headerLength)
+    (refuseIf 6 (not (sizesAllowed (size1 file) (size2 file) (size3 file)))
+    (refuseIf 7 (not (eqb (length file) (fileLength (entryCount file)))) Passed))
+
+-- "8 an uncertainty above 32767"; of several entries the lowest index
+abbrev pub limitCheck : ℕ → (ℕ → ℕ) → Checked
+limitCheck n uncertaintyOf = refuseAt 8 (first n (λ i. ltb 32767 (uncertaintyOf i))) Passed
+
+-- "9 a block slice shorter than n", by the lengths of the two slices
+abbrev pub roomCheck : ℕ → ℕ → ℕ → Checked
+roomCheck n corrections uncertainties = refuseIf 9 (ltb corrections n || ltb uncertainties n) Passed
+
+-- "Checks: 5, 6, 7, 8, 9."
+unfoldable pub loadChecks : List ℕ → ℕ → ℕ → Checked
+loadChecks file corrections uncertainties =
+    andThen (layoutChecks file)
+    (andThen (limitCheck (entryCount file) (uncertainty file))
+    (roomCheck (entryCount file) corrections uncertainties))
+
+-- "A load writes .. the sizes to the unit"
+unfoldable pub loadAnswer : Unit → List ℕ → List ℤ → List ℕ → UnitAnswer
+loadAnswer u file corrections uncertainties =
+    passedOr (loadChecks file (length corrections) (length uncertainties))
+    (Changed (withBlock u (size1 file) (size2 file) (size3 file)))
+    Refused
+
+-- "A load writes both arrays to two lent slices ..; places past n are unchanged."
+unfoldable pub loadCorrections : List ℕ → List ℤ → List ℕ → List ℤ
+loadCorrections file corrections uncertainties =
+    passedOr (loadChecks file (length corrections) (length uncertainties))
+    (filled (correction file) (entryCount file) corrections)
+    (λ _. corrections)
+
+unfoldable pub loadUncertainties : List ℕ → List ℤ → List ℕ → List ℕ
+loadUncertainties file corrections uncertainties =
+    passedOr (loadChecks file (length corrections) (length uncertainties))
+    (filled (uncertainty file) (entryCount file) uncertainties)
+    (λ _. uncertainties)
