@@ -1,0 +1,105 @@
+//! An evaluator of four-direction box splines by the recurrence of source document 002, in exact arithmetic.
+
+mod calls;
+mod field;
+mod formats;
+mod interpolation;
+mod lent;
+mod literal;
+mod net;
+mod point;
+mod query;
+mod random;
+mod ratio;
+mod recurrence;
+mod sha256;
+mod shares;
+mod unit;
+mod vectors;
+
+use net::Multiplicities;
+use std::io::{self, Read, Write};
+use std::path::Path;
+use std::process::ExitCode;
+
+const USAGE: &str = "\
+usage: evaluator COMMAND
+
+  net V1 V2 V3 V4           a net in clear, as program shares prints it
+  digests                   one line about each of the 495 nets
+  value V1 V2 V3 V4 X Y Z D
+                            the box spline at (X/D, Y/D, Z/D), off all knot planes, by the recurrence word for word
+  shares-expected           what program shares prints, for each line of the standard input as its order
+
+  point V1 V2 V3 V4 N1 N2 N3 X Y Z D BLOCK
+                            a point's answer by the recurrence
+  lent-point V1 V2 V3 V4 N1 N2 N3 X Y Z D BLOCK [--net FILE] [INDEX=NUMBER ..]
+                            a point's answer from the numbers of a lent net: the defined one, or the one in FILE (in the
+                            form of command net), with these numbers changed
+                            BLOCK is --file FILE (a field file with sizes N1 N2 N3) or --seed NUMBER
+
+  vectors DIRECTORY         writes the stored vectors
+  vectors --check DIRECTORY
+                            says whether the stored vectors are current
+";
+
+type Outcome = Result<(), String>;
+
+fn print(bytes: &[u8]) -> Outcome {
+    io::stdout().write_all(bytes).map_err(|e| e.to_string())
+}
+
+fn digests() -> Outcome {
+    print(formats::DIGEST_HEADER.as_bytes())?;
+    for degree in 1..=9 {
+        for net in net::nets(&Multiplicities::of_degree(degree)) {
+            print(formats::digest(&net).as_bytes())?;
+        }
+    }
+    Ok(())
+}
+
+fn shares_expected() -> Outcome {
+    let mut input = Vec::new();
+    io::stdin().read_to_end(&mut input).map_err(|e| e.to_string())?;
+    let mut prints = shares::Prints::new();
+    for line in input.split_inclusive(|&b| b == b'\n') {
+        let order = line.strip_suffix(b"\n").unwrap_or(line);
+        print(&prints.print_with_order(order))?;
+    }
+    Ok(())
+}
+
+fn check_vectors(directory: &Path) -> Outcome {
+    let stale = vectors::stale(directory);
+    if !stale.is_empty() {
+        return Err(format!("not current: {}", stale.join(", ")));
+    }
+    print(b"all stored vectors are current\n")
+}
+
+fn run(arguments: &[String]) -> Outcome {
+    let words: Vec<&str> = arguments.iter().map(String::as_str).collect();
+    match words[..] {
+        ["net", ..] => print(query::net(&arguments[1..])?.as_bytes()),
+        ["value", ..] => print(query::value(&arguments[1..])?.as_bytes()),
+        ["digests"] => digests(),
+        ["shares-expected"] => shares_expected(),
+        ["point", ..] => print(query::point(&arguments[1..])?.as_bytes()),
+        ["lent-point", ..] => print(query::lent_point(&arguments[1..])?.as_bytes()),
+        ["vectors", "--check", directory] => check_vectors(Path::new(directory)),
+        ["vectors", directory] => vectors::write(Path::new(directory)),
+        _ => Err(USAGE.to_string()),
+    }
+}
+
+fn main() -> ExitCode {
+    let arguments: Vec<String> = std::env::args().skip(1).collect();
+    match run(&arguments) {
+        Ok(()) => ExitCode::SUCCESS,
+        Err(message) => {
+            eprintln!("{}", message.trim_end());
+            ExitCode::FAILURE
+        }
+    }
+}

@@ -1,0 +1,188 @@
+//! The commands that take numbers: their arguments, and what they print.
+
+use crate::field::{self, Block};
+use crate::formats::listing;
+use crate::lent;
+use crate::literal;
+use crate::net::{Multiplicities, Net};
+use crate::point::{self, Call, Fraction};
+use crate::random::Random;
+use crate::ratio::Ratio;
+use crate::unit::{Refusal, Sizes, Unit};
+use std::fs;
+
+const NUMBERS: usize = 11;
+
+/// A point call as it stands on the command line, and the arguments after it.
+struct Query<'a> {
+    multiplicities: Multiplicities,
+    block: Result<Block, Refusal>,
+    coordinates: [u32; 3],
+    divisor: u32,
+    rest: &'a [String],
+}
+
+fn numbers(arguments: &[String]) -> Result<Vec<u32>, String> {
+    arguments.iter().map(|a| a.parse().map_err(|_| format!("{a} is no number of 32 bits"))).collect()
+}
+
+fn multiplicities(numbers: &[u32]) -> Result<Multiplicities, String> {
+    let v = <[u32; 4]>::try_from(numbers).ok().and_then(|v| Multiplicities::new(v.map(|v| v as usize)));
+    v.ok_or_else(|| "four multiplicities, each at least 1, of sum at most 12".to_string())
+}
+
+/// The block of a field file or of a seed; a file may be refused.
+fn block(sizes: Sizes, option: &str, value: &str) -> Result<Result<Block, Refusal>, String> {
+    match option {
+        "--file" => {
+            let block = field::read(&fs::read(value).map_err(|e| format!("{value}: {e}"))?);
+            let fits = block.as_ref().map_or(true, |block| block.sizes == sizes);
+            if fits { Ok(block) } else { Err(format!("{value} has other sizes")) }
+        }
+        "--seed" => {
+            let seed = value.parse().map_err(|_| format!("{value} is no seed"))?;
+            Ok(Ok(Block::random(sizes, &mut Random::new(seed))))
+        }
+        _ => Err("--file or --seed is missing".to_string()),
+    }
+}
+
+fn query(arguments: &[String]) -> Result<Query<'_>, String> {
+    let (head, rest) = arguments.split_at_checked(NUMBERS).ok_or("eleven numbers and a block")?;
+    let numbers = numbers(head)?;
+    let sizes = Sizes::new([4, 5, 6].map(|i| numbers[i] as usize)).ok_or("sizes from 1 to 64, product at most 4096")?;
+    let [option, value, rest @ ..] = rest else { return Err("--file or --seed is missing".to_string()) };
+    Ok(Query {
+        multiplicities: multiplicities(&numbers[..4])?,
+        block: block(sizes, option, value)?,
+        coordinates: [7, 8, 9].map(|i| numbers[i]),
+        divisor: numbers[10],
+        rest,
+    })
+}
+
+/// Runs the call with a net slice of the given length; a refused file is the answer itself.
+fn ask(query: &Query, length: usize, answer: impl Fn(&Call) -> Result<Fraction, Refusal>) -> String {
+    let answered = query.block.as_ref().map_err(|refusal| *refusal).and_then(|block| {
+        answer(&Call {
+            unit: Unit::EMPTY.with_net(query.multiplicities).with_block(block.sizes),
+            net_length: length,
+            corrections: &block.corrections,
+            uncertainties: &block.uncertainties,
+            coordinates: query.coordinates,
+            divisor: query.divisor,
+        })
+    });
+    match answered {
+        Ok(fraction) => format!("{fraction}\n"),
+        Err(refusal) => format!("{refusal}\n"),
+    }
+}
+
+/// M at a point, by the literal recurrence.
+pub fn value(arguments: &[String]) -> Result<String, String> {
+    let numbers = numbers(arguments)?;
+    let [.., x, y, z, divisor] = numbers[..] else { return Err("V1 V2 V3 V4 X Y Z D".to_string()) };
+    if divisor == 0 {
+        return Err("a point over 0".to_string());
+    }
+    let point = [x, y, z].map(|c| Ratio::new(c.into(), divisor.into()));
+    let counts = multiplicities(&numbers[..numbers.len() - 4])?.counts();
+    if literal::on_knot_plane(&point) {
+        return Err("the point is on a knot plane".to_string());
+    }
+    let Ratio { numerator, denominator } = literal::box_spline(&counts, point);
+    Ok(format!("{numerator}/{denominator}\n"))
+}
+
+pub fn net(arguments: &[String]) -> Result<String, String> {
+    Ok(listing(&Net::of(multiplicities(&numbers(arguments)?)?)))
+}
+
+pub fn point(arguments: &[String]) -> Result<String, String> {
+    let query = query(arguments)?;
+    if !query.rest.is_empty() {
+        return Err(format!("{} is too much", query.rest[0]));
+    }
+    Ok(ask(&query, query.multiplicities.places(), point::answer))
+}
+
+pub fn lent_point(arguments: &[String]) -> Result<String, String> {
+    let query = query(arguments)?;
+    let (mut numbers, changes) = match query.rest {
+        [option, file, changes @ ..] if option == "--net" => {
+            (listed(&fs::read_to_string(file).map_err(|e| format!("{file}: {e}"))?)?, changes)
+        }
+        changes => (Net::of(query.multiplicities).numbers, changes),
+    };
+    for change in changes {
+        let (index, number) = parse_change(change).ok_or_else(|| format!("{change} is not INDEX=NUMBER"))?;
+        *numbers.get_mut(index).ok_or_else(|| format!("there is no index {index}"))? = number;
+    }
+    Ok(ask(&query, numbers.len(), |call| lent::answer(call, &numbers)))
+}
+
+fn parse_change(text: &str) -> Option<(usize, u32)> {
+    let (index, number) = text.split_once('=')?;
+    Some((index.parse().ok()?, number.parse().ok()?))
+}
+
+/// The numbers of a net in the form that command net prints.
+fn listed(text: &str) -> Result<Vec<u32>, String> {
+    let mut lines = text.lines();
+    let header: Vec<&str> = lines.next().unwrap_or("").split(' ').collect();
+    let widths = match header[..] {
+        ["box", w1, w2, w3, "degree", _] => [w1, w2, w3].map(|w| w.parse::<usize>().ok().filter(|w| *w < 1000)),
+        _ => [None; 3],
+    };
+    let [Some(w1), Some(w2), Some(w3)] = widths else { return Err("a net begins with its box".to_string()) };
+    let mut numbers = vec![0; w1 * w2 * w3];
+    for line in lines {
+        match parse_listed(line) {
+            Some(([x, y, z], number)) if x < w1 && y < w2 && z < w3 => numbers[x + w1 * (y + w2 * z)] = number,
+            _ => return Err(format!("{line} is no place of the box with its number")),
+        }
+    }
+    Ok(numbers)
+}
+
+fn parse_listed(line: &str) -> Option<([usize; 3], u32)> {
+    let fields: Option<Vec<u32>> = line.split(' ').map(|word| word.parse().ok()).collect();
+    let [x, y, z, number] = <[u32; 4]>::try_from(fields?).ok()?;
+    Some(([x, y, z].map(|c| c as usize), number))
+}
+
+#[cfg(test)]
+mod tests {
+    use super::*;
+
+    fn words(text: &str) -> Vec<String> {
+        text.split(' ').map(String::from).collect()
+    }
+
+    #[test]
+    fn both_ways_give_one_answer() {
+        let arguments = words("2 1 1 2 5 4 3 30 22 17 7 --seed 9");
+        assert_eq!(point(&arguments), lent_point(&arguments));
+        assert!(point(&arguments).unwrap().starts_with("answer "));
+    }
+
+    #[test]
+    fn a_changed_number_is_refused_by_23() {
+        assert_eq!(lent_point(&words("1 1 1 1 2 2 2 1 1 1 1 --seed 9 13=2")), Ok("refused 23 0\n".to_string()));
+    }
+
+    #[test]
+    fn a_value_off_the_knot_planes() {
+        assert_eq!(value(&words("1 1 1 1 7 8 9 10")), Ok("7/10\n".to_string()));
+        assert!(value(&words("1 1 1 1 7 7 9 10")).is_err());
+        assert!(value(&words("1 1 1 1 7 8 9 0")).is_err());
+    }
+
+    #[test]
+    fn a_listing_reads_as_the_net_it_was_made_from() {
+        let net = Net::of(Multiplicities::new([2, 1, 1, 1]).unwrap());
+        assert_eq!(listed(&listing(&net)), Ok(net.numbers));
+        assert!(listed("box 3 3 3 degree 1\n3 0 0 1\n").is_err());
+    }
+}

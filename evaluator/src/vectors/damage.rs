@@ -1,0 +1,118 @@
+//! Points over lent nets that are not the defined one: 23, and answers from the lent numbers.
+
+use super::scene::Scene;
+use super::{Shelf, shape};
+use crate::field::Block;
+use crate::net::Multiplicities;
+use crate::random::Random;
+use crate::unit::Sizes;
+
+const DIVISOR: u32 = 4;
+
+fn simple() -> Multiplicities {
+    shape([1; 4])
+}
+
+fn quadratic() -> Multiplicities {
+    shape([2, 1, 1, 1])
+}
+
+fn compensated_shapes() -> Vec<Multiplicities> {
+    [[2, 1, 1, 1], [2, 2, 1, 1], [1, 2, 2, 2], [3, 2, 2, 2]].map(shape).to_vec()
+}
+
+pub fn shapes() -> Vec<Multiplicities> {
+    [vec![simple(), shape([1, 1, 2, 1])], compensated_shapes()].concat()
+}
+
+pub fn text(shelf: &Shelf) -> String {
+    let mut scenes = vec![wrapped(), no_share(shelf), other_net()];
+    scenes.extend([[2, 1, 0], [0, 1, 2], [1, 2, 0]].map(|place| one_number(place, shelf)));
+    scenes.extend(compensated_shapes().into_iter().flat_map(|v| [corner(v, 0), corner(v, v.places() - 1)]));
+    scenes.extend(compensated_shapes().into_iter().map(|v| compensated(v, shelf)));
+    scenes.iter().map(|scene| scene.text(shelf)).collect()
+}
+
+/// The net's window is the whole block.
+fn tight(v: Multiplicities) -> Scene {
+    let sizes = Sizes::new(v.extents()).expect("at most 10 on an axis");
+    Scene::new(v, Block::random(sizes, &mut Random::new(3)))
+}
+
+/// Every point of the cube whose window is the block, at divisor 4: remainders of each order and with each tie.
+fn ask_cube(scene: &mut Scene) {
+    let corner = scene.net.extents().map(|e| (e as u32 - 1) * DIVISOR);
+    for index in 0..DIVISOR.pow(3) {
+        let remainder = [index % DIVISOR, index / DIVISOR % DIVISOR, index / DIVISOR / DIVISOR];
+        scene.ask([0, 1, 2].map(|b| corner[b] + remainder[b]), DIVISOR);
+    }
+}
+
+fn ask_some(scene: &mut Scene) {
+    let corner = scene.net.extents().map(|e| (e as u32 - 1) * DIVISOR);
+    for remainder in [[0, 0, 0], [3, 3, 3], [3, 2, 1], [1, 2, 3], [2, 0, 2], [0, 1, 0]] {
+        scene.ask([0, 1, 2].map(|b| corner[b] + remainder[b]), DIVISOR);
+    }
+}
+
+/// One number is one too large: 23 exactly where the axis order of the point makes its place a local one.
+fn one_number(place: [usize; 3], shelf: &Shelf) -> Scene {
+    let mut scene = tight(quadratic());
+    let index = scene.net.index(place);
+    scene.changes.push((index, shelf.net(scene.net).at(place) + 1));
+    ask_cube(&mut scene);
+    scene
+}
+
+/// The shares add up to 2^32 + 1 at each local place, which is m! = 1 in 32 bits.
+fn wrapped() -> Scene {
+    let mut scene = tight(simple());
+    for (place, number) in [([1, 1, 0], 2), ([1, 1, 1], u32::MAX), ([1, 1, 2], 2)] {
+        scene.changes.push((scene.net.index(place), number));
+    }
+    ask_some(&mut scene);
+    scene
+}
+
+fn no_share(shelf: &Shelf) -> Scene {
+    let mut scene = tight(quadratic());
+    let zeros = shelf.net(scene.net).listing().map(|(place, _)| (scene.net.index(place), 0));
+    scene.changes.extend(zeros);
+    ask_some(&mut scene);
+    scene
+}
+
+/// The lent net is that of another shape with a box of as many places.
+fn other_net() -> Scene {
+    let other = shape([1, 1, 2, 1]);
+    let mut scene = tight(quadratic());
+    ask_some(&mut scene);
+    assert_eq!(scene.net.places(), other.places());
+    scene.net = other;
+    scene
+}
+
+/// The lowest or the highest place of the box is the share of an entry at a local place of every point.
+fn corner(v: Multiplicities, index: usize) -> Scene {
+    let mut scene = tight(v);
+    scene.changes.push((index, 1));
+    ask_some(&mut scene);
+    scene
+}
+
+/// Two shares at one local place are changed against each other: no defined net, and no 23.
+fn compensated(v: Multiplicities, shelf: &Shelf) -> Scene {
+    let mut scene = tight(v);
+    let degree = v.degree();
+    let residues = |place: [usize; 3]| place.map(|c| c % degree);
+    // A place with a residue 0 would be a local place of two cubes.
+    let inner: Vec<_> = shelf.net(v).listing().filter(|&(place, _)| !residues(place).contains(&0)).collect();
+    let &(from, taken) = inner.first().expect("a net has inner numbers");
+    let &(to, given) = inner.iter().rfind(|&&(place, _)| residues(place) == residues(from)).expect("itself at least");
+    assert_ne!(from, to);
+    scene.changes.extend([(v.index(from), taken - 1), (v.index(to), given + 1)]);
+    ask_cube(&mut scene);
+    let lent_numbers = scene.lent_numbers(shelf);
+    assert!(scene.cases.iter().all(|case| scene.answer(case, &lent_numbers).is_ok()), "the sums are still m!");
+    scene
+}

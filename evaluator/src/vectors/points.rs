@@ -1,0 +1,143 @@
+//! Points over defined nets of every degree: document 01's figures, any points, and the largest numbers.
+
+use super::scene::Scene;
+use super::{Shelf, shape};
+use crate::field::{Block, NEVER_MEASURED};
+use crate::net::Multiplicities;
+use crate::point::largest_divisor;
+use crate::random::Random;
+use crate::unit::Sizes;
+
+const NETS_OF_A_DEGREE: usize = 6;
+
+/// Nets of each degree, from the first to the last.
+fn spread() -> Vec<Multiplicities> {
+    let mut chosen = Vec::new();
+    for degree in 1..=9 {
+        let all = Multiplicities::of_degree(degree);
+        let count = all.len().min(NETS_OF_A_DEGREE);
+        chosen.extend((0..count).map(|i| all[i * (all.len() - 1) / (count - 1).max(1)]));
+    }
+    chosen
+}
+
+/// Nets at whose largest divisors the numerators are greatest, and the longest and the fullest box.
+fn large() -> Vec<Multiplicities> {
+    [[1, 1, 1, 1], [2, 2, 2, 1], [2, 2, 2, 2], [2, 3, 3, 3], [1, 1, 1, 9], [3, 3, 3, 3]].map(shape).to_vec()
+}
+
+pub fn shapes() -> Vec<Multiplicities> {
+    [spread(), large()].concat()
+}
+
+pub fn text(shelf: &Shelf) -> String {
+    let mut random = Random::new(1);
+    let mut scenes = figures();
+    scenes.extend(spread().into_iter().enumerate().map(|(number, v)| any_scene(v, number, &mut random)));
+    scenes.extend(large().into_iter().flat_map(|v| large_scenes(v, &mut random)));
+    scenes.iter().map(|scene| scene.text(shelf)).collect()
+}
+
+/// Document 01's hand-computed points.
+fn figures() -> Vec<Scene> {
+    let mut block = Block::constant(Sizes::new([2, 2, 2]).expect("within the limits"), 0, 5);
+    (block.corrections[0], block.corrections[1]) = (100, -40);
+    let mut measured = Scene::new(shape([1; 4]), block.clone());
+    for (coordinates, divisor) in [([1, 1, 1], 1), ([3, 2, 2], 2), ([0, 1, 1], 1), ([2, 1, 1], 1)] {
+        measured.ask(coordinates, divisor);
+    }
+    block.corrections[1] = NEVER_MEASURED;
+    let mut with_gap = Scene::new(shape([1; 4]), block);
+    with_gap.ask([1, 1, 1], 1);
+    vec![measured, with_gap]
+}
+
+/// Sizes that hold a window or a little more.
+fn sizes(v: Multiplicities, least_more: usize, random: &mut Random) -> Sizes {
+    let n = v.extents().map(|e| e + random.between(least_more, 2));
+    Sizes::new(n).expect("at most 12 on an axis")
+}
+
+/// A random block, in every second scene with gaps in two corners, in every third in slices longer than it needs.
+fn any_scene(v: Multiplicities, number: usize, random: &mut Random) -> Scene {
+    let has_gaps = number % 2 == 1;
+    let mut block = Block::random(sizes(v, has_gaps as usize, random), random);
+    if has_gaps {
+        let last = block.sizes.entries() - 1;
+        block.corrections[0] = NEVER_MEASURED;
+        block.corrections[last] = NEVER_MEASURED;
+    }
+    if number.is_multiple_of(3) {
+        block.corrections.extend([NEVER_MEASURED; 3]);
+        block.uncertainties.extend([65535; 2]);
+    }
+    let mut scene = Scene::new(v, block);
+    ask_inside(&mut scene, random);
+    ask_outside(&mut scene);
+    scene
+}
+
+/// A coordinate for each axis from cube and remainder.
+fn coordinates(cube: [usize; 3], remainder: [u32; 3], divisor: u32) -> [u32; 3] {
+    [0, 1, 2].map(|b| cube[b] as u32 * divisor + remainder[b])
+}
+
+fn any_cube(scene: &Scene, random: &mut Random) -> [usize; 3] {
+    let (extents, axes) = (scene.net.extents(), scene.block.sizes.axes());
+    [0, 1, 2].map(|b| random.between(extents[b] - 1, axes[b] - 1))
+}
+
+/// The extreme vertices, and points with each kind of equal remainders at small, middle and largest divisors.
+fn ask_inside(scene: &mut Scene, random: &mut Random) {
+    let largest = largest_divisor(scene.net.degree());
+    scene.ask(scene.net.extents().map(|e| e as u32 - 1), 1);
+    scene.ask(scene.block.sizes.axes().map(|n| n as u32 - 1), 1);
+    let last = scene.block.sizes.axes().map(|n| n - 1);
+    scene.ask(coordinates(last, [largest - 1; 3], largest), largest);
+    for kind in 0..8 {
+        let divisor = if kind < 2 { largest } else { random.between(2, largest as usize) as u32 };
+        let [a, b, c] = [0; 3].map(|_: u32| random.below(divisor.into()) as u32);
+        let remainder = match kind {
+            2 => [a, a, a],
+            3 => [a, a, b],
+            4 => [a, b, b],
+            5 => [a, b, a],
+            6 => [0, a, b],
+            _ => [a, b, c],
+        };
+        let cube = any_cube(scene, random);
+        scene.ask(coordinates(cube, remainder, divisor), divisor);
+    }
+}
+
+/// Just outside on a low and on a high face, far outside, and a divisor that is just too large.
+fn ask_outside(scene: &mut Scene) {
+    let (extents, axes) = (scene.net.extents(), scene.block.sizes.axes());
+    let largest = largest_divisor(scene.net.degree());
+    let axis = extents.iter().sum::<usize>() % 3;
+    let inside = coordinates(extents.map(|e| e - 1), [0; 3], largest);
+    let (mut below, mut above) = (inside, inside);
+    below[axis] -= 1;
+    above[axis] = axes[axis] as u32 * largest;
+    for point in [below, above, [u32::MAX; 3]] {
+        scene.ask(point, largest);
+    }
+    scene.ask(inside, largest + 1);
+}
+
+/// Constant blocks of the largest numbers that the slices can hold, and of the least correction.
+fn large_scenes(v: Multiplicities, random: &mut Random) -> Vec<Scene> {
+    let sizes = sizes(v, 0, random);
+    let largest = largest_divisor(v.degree());
+    let numbers = [(32767, 65535), (-32767, 0)];
+    let scene = |(correction, uncertainty)| {
+        let mut scene = Scene::new(v, Block::constant(sizes, correction, uncertainty));
+        let remainders = [[0; 3], [largest - 1; 3], [largest / 2, largest / 3, largest / 5]];
+        for remainder in remainders {
+            let cube = any_cube(&scene, random);
+            scene.ask(coordinates(cube, remainder, largest), largest);
+        }
+        scene
+    };
+    numbers.into_iter().map(scene).collect()
+}

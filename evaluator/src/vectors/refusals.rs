@@ -1,0 +1,115 @@
+//! Each refusal of the point call alone and together with each other one, which shows the order of the checks.
+
+use super::scene::{Case, Scene};
+use super::{Shelf, shape};
+use crate::field::{Block, NEVER_MEASURED};
+use crate::net::Multiplicities;
+use crate::point::{LARGEST_DIVISOR, largest_divisor};
+use crate::random::Random;
+use crate::unit::{Sizes, Unit};
+
+const CHECKS: [u8; 9] = [21, 22, 4, 9, 10, 11, 12, 13, 23];
+
+/// Of a degree where 11 can apply without 10.
+fn net() -> Multiplicities {
+    shape([2, 2, 2, 1])
+}
+
+pub fn shapes() -> Vec<Multiplicities> {
+    vec![net()]
+}
+
+pub fn text(shelf: &Shelf) -> String {
+    let kinds = [(false, false), (true, false), (false, true), (true, true)];
+    kinds.map(|(has_gap, is_damaged)| scene(has_gap, is_damaged, shelf).text(shelf)).concat()
+}
+
+/// The pairs of checks, each also with itself; the earlier one is first.
+fn pairs() -> impl Iterator<Item = [u8; 2]> {
+    (0..CHECKS.len()).flat_map(|i| (i..CHECKS.len()).map(move |j| [CHECKS[i], CHECKS[j]]))
+}
+
+/// The pairs that have 13 exactly where the block has a gap, and 23 exactly where the net is damaged.
+fn scene(has_gap: bool, is_damaged: bool, shelf: &Shelf) -> Scene {
+    let sizes = Sizes::new([4, 5, 3]).expect("within the limits");
+    let mut scene = Scene::new(net(), Block::random(sizes, &mut Random::new(2)));
+    if has_gap {
+        scene.block.corrections[7..9].fill(NEVER_MEASURED);
+    }
+    if is_damaged {
+        scene.changes.push((0, 1));
+    }
+    let lent_numbers = scene.lent_numbers(shelf);
+    for pair in pairs().filter(|p| p.contains(&13) == has_gap && p.contains(&23) == is_damaged) {
+        let cases = cases(&scene, pair);
+        for case in &cases {
+            let refusal = scene.answer(case, &lent_numbers).expect_err("a fault is refused");
+            assert_eq!(refusal.number, pair[0], "the earlier of {pair:?}");
+        }
+        scene.cases.extend(cases);
+    }
+    scene
+}
+
+/// The call that would be answered but for the scene's gap and damage, with the faults of the pair.
+fn cases(scene: &Scene, pair: [u8; 2]) -> Vec<Case> {
+    let divisor = 10;
+    let sound = scene.case(inside(divisor), divisor);
+    let first: Vec<Case> = with_fault(sound, pair[0]);
+    if pair[0] == pair[1] {
+        return first;
+    }
+    first.into_iter().flat_map(|case| with_fault(case, pair[1])).collect()
+}
+
+/// The lowest point inside.
+fn inside(divisor: u32) -> [u32; 3] {
+    net().extents().map(|e| (e as u32 - 1).saturating_mul(divisor))
+}
+
+fn with_fault(case: Case, number: u8) -> Vec<Case> {
+    let Case { unit, lengths, .. } = case;
+    let with_units = |units: Vec<Unit>| units.into_iter().map(|unit| Case { unit, ..case }).collect();
+    let with_lengths = |all: Vec<[usize; 3]>| all.into_iter().map(|lengths| Case { lengths, ..case }).collect();
+    let largest = largest_divisor(net().degree());
+    match number {
+        21 => with_units(units_without_net(unit)),
+        22 => with_units(units_without_block(unit)),
+        4 => with_lengths(vec![[net().places() - 1, lengths[1], lengths[2]], [0, lengths[1], lengths[2]]]),
+        9 => with_lengths(vec![[lengths[0], lengths[1] - 1, lengths[2]], [lengths[0], lengths[1], lengths[2] - 1]]),
+        10 => with_divisors(case, &[0, LARGEST_DIVISOR + 1, u32::MAX]),
+        // Where 10 applies too, the divisor stays.
+        11 if case.divisor > LARGEST_DIVISOR || case.divisor == 0 => vec![case],
+        11 => with_divisors(case, &[largest + 1, LARGEST_DIVISOR]),
+        12 => outside(case),
+        _ => vec![case],
+    }
+}
+
+fn units_without_net(unit: Unit) -> Vec<Unit> {
+    let mut units = vec![Unit { has_net: false, ..unit }];
+    units.extend([[2, 2, 0, 1], [2, 2, 2, 7], [255; 4]].map(|v| Unit { v, ..unit }));
+    units
+}
+
+fn units_without_block(unit: Unit) -> Vec<Unit> {
+    let mut units = vec![Unit { has_block: false, ..unit }];
+    units.extend([[4, 0, 3], [65, 5, 3], [64, 64, 2], [65535; 3]].map(|n| Unit { n, ..unit }));
+    units
+}
+
+/// The same cube at other divisors.
+fn with_divisors(case: Case, divisors: &[u32]) -> Vec<Case> {
+    divisors.iter().map(|&divisor| Case { coordinates: inside(divisor), divisor, ..case }).collect()
+}
+
+/// Outside by one on the low side of an axis, and on the high side of another.
+fn outside(case: Case) -> Vec<Case> {
+    let moved = |axis: usize, coordinate: u32| {
+        let mut coordinates = case.coordinates;
+        coordinates[axis] = coordinate;
+        Case { coordinates, ..case }
+    };
+    let high = u32::from(case.unit.n[2]).saturating_mul(case.divisor);
+    vec![moved(0, case.coordinates[0].saturating_sub(1)), moved(2, high)]
+}

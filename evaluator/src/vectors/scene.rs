@@ -1,0 +1,105 @@
+//! Point calls that share a lent net and a lent block, and their text.
+
+use super::Shelf;
+use crate::field::Block;
+use crate::formats::{join, number_lines};
+use crate::lent;
+use crate::net::Multiplicities;
+use crate::point::{self, Call, Fraction};
+use crate::unit::{Refusal, Unit};
+
+pub const HEADER: &str = "\
+# Point calls. Each line is a word and numbers.
+# net V1 V2 V3 V4      from here on, the lent net is the defined one of these multiplicities
+# set INDEX NUMBER     but for this number at this index
+# block                from here on, the lent block is what the lines c and u say
+# c NUMBERS            corrections, in index order
+# u NUMBERS            uncertainties, in index order
+# point HAS-NET V1 V2 V3 V4 HAS-BLOCK N1 N2 N3 NET C U X Y Z D answer N U DENOMINATOR
+# point HAS-NET V1 V2 V3 V4 HAS-BLOCK N1 N2 N3 NET C U X Y Z D refused NUMBER PLACE
+#                      a call with this unit; NET, C, U are the slices' lengths: so many of the lent numbers are handed
+#                      in, and a net slice longer than the lent net holds 4294967295 past it
+";
+
+/// The slice of this length that begins with the lent numbers; what no call may read is filled in past them.
+pub fn slice(numbers: &[u32], length: usize) -> Vec<u32> {
+    let mut slice = numbers.to_vec();
+    slice.resize(length, u32::MAX);
+    slice
+}
+
+/// One call, apart from the numbers lent to it.
+#[derive(Clone, Copy)]
+pub struct Case {
+    pub unit: Unit,
+    /// The lengths of net, corrections and uncertainties.
+    pub lengths: [usize; 3],
+    pub coordinates: [u32; 3],
+    pub divisor: u32,
+}
+
+pub struct Scene {
+    pub net: Multiplicities,
+    pub changes: Vec<(usize, u32)>,
+    pub block: Block,
+    pub cases: Vec<Case>,
+}
+
+impl Scene {
+    pub fn new(net: Multiplicities, block: Block) -> Scene {
+        Scene { net, changes: Vec::new(), block, cases: Vec::new() }
+    }
+
+    /// A unit that holds the scene's net and block, and slices as long as these.
+    pub fn case(&self, coordinates: [u32; 3], divisor: u32) -> Case {
+        let unit = Unit::EMPTY.with_net(self.net).with_block(self.block.sizes);
+        let lengths = [self.net.places(), self.block.corrections.len(), self.block.uncertainties.len()];
+        Case { unit, lengths, coordinates, divisor }
+    }
+
+    pub fn ask(&mut self, coordinates: [u32; 3], divisor: u32) {
+        self.cases.push(self.case(coordinates, divisor));
+    }
+
+    pub fn lent_numbers(&self, shelf: &Shelf) -> Vec<u32> {
+        let mut numbers = shelf.net(self.net).numbers.clone();
+        for &(index, number) in &self.changes {
+            numbers[index] = number;
+        }
+        numbers
+    }
+
+    /// The answer from the lent numbers; where these are the unit's own net, the recurrence must say the same.
+    pub fn answer(&self, case: &Case, lent_numbers: &[u32]) -> Result<Fraction, Refusal> {
+        let Case { unit, lengths, coordinates, divisor } = *case;
+        let corrections = &self.block.corrections[..lengths[1]];
+        let uncertainties = &self.block.uncertainties[..lengths[2]];
+        let call = Call { unit, net_length: lengths[0], corrections, uncertainties, coordinates, divisor };
+        let answer = lent::answer(&call, &slice(lent_numbers, lengths[0]));
+        if self.changes.is_empty() && unit.net().is_none_or(|v| v == self.net) {
+            assert_eq!(answer, point::answer(&call), "the net and the recurrence agree");
+        }
+        answer
+    }
+
+    pub fn text(&self, shelf: &Shelf) -> String {
+        let lent_numbers = self.lent_numbers(shelf);
+        let mut text = format!("net {}\n", join(self.net.counts()));
+        for (index, number) in &self.changes {
+            text.push_str(&format!("set {index} {number}\n"));
+        }
+        text.push_str("block\n");
+        text.push_str(&number_lines("c", &self.block.corrections));
+        text.push_str(&number_lines("u", &self.block.uncertainties));
+        for case in &self.cases {
+            let result = match self.answer(case, &lent_numbers) {
+                Ok(fraction) => fraction.to_string(),
+                Err(refusal) => refusal.to_string(),
+            };
+            let Case { unit, lengths, coordinates, divisor } = case;
+            let line = format!("point {unit} {} {} {divisor} {result}\n", join(lengths), join(coordinates));
+            text.push_str(&line);
+        }
+        text
+    }
+}
