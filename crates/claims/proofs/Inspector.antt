@@ -1,12 +1,12 @@
 -- Demand 3 on inspections: a net passes exactly when it obeys the rule, and a refusal carries the lowest index that differs.
-use mathlib.Core.Bool.{false, not, true}
+use mathlib.Core.Bool.{_||_, false, not, true}
 use mathlib.Core.List.{List}
 use mathlib.Core.Logic.{_↔_}
 use mathlib.Core.Path.{_∙_, _≡_, ap, refl, sym}
 use Prim.Native.Nat.{_<_, _≤_, ℕ}
 use native.Mathlib.Omega.{arith}
-use borrow.Author.Tests.{eq-eqb, eqb-true, le-ltb}
-use lib.Dec.{eqb}
+use borrow.Author.Tests.{eq-eqb, eqb-true, le-ltb, ltb-false}
+use lib.Dec.{eqb, ltb}
 use lib.ListN.{getD, length, take}
 use lib.Seq.{ext-getD, getD-take, length-take-le}
 use Rattle.sums.proofs.Search.{false-true, first-found, first-nowhere, nowhere-first}
@@ -18,15 +18,17 @@ use Rattle.spline.specs.Box.{netList, places, width}
 use Rattle.spline.specs.Defined.{defined, repeats}
 use Rattle.spline.specs.Multiplicities.{HasRepeat, Multiplicities, allowed}
 use Rattle.spline.specs.Place.{Direction}
+use Rattle.unit.proofs.Checks.{at-passed, if-passed}
 use Rattle.unit.proofs.Limits.{allowed-limits}
 use Rattle.unit.specs.Checks.{passedOr, refusal, refuseAt}
-use Rattle.unit.specs.Unit.{withNet}
+use Rattle.unit.specs.Unit.{emptyUnit, withNet}
 use Rattle.unit.specs.declared.Checked.the-variants.{Passed}
 use Rattle.unit.specs.declared.Unit.{Unit}
 use Rattle.unit.specs.declared.UnitAnswer.{UnitAnswer}
 use Rattle.unit.specs.declared.UnitAnswer.the-variants.{Changed, Refused}
 use Rattle.claims.proofs.Plain.{plain-defined, repeat-or-none}
 use Rattle.claims.specs.Nets.{HoldsDefined, RightNumbers}
+use Rattle.net.proofs.Accepted.{or-false}
 use Rattle.net.proofs.Orders.{not-true}
 use Rattle.net.specs.Inspect.{definedNumber, differsFrom, inspectAnswer, inspectChecks}
 
@@ -67,7 +69,7 @@ module _ (v : Multiplicities) (net : List ℕ) (defined-length work : ℕ) (u : 
   same-number : (i : ℕ) → differsFrom (definedNumber v) net i ≡ false → getD net i 0 ≡ definedNumber v i
   same-number i h = eqb-true (getD net i 0) (definedNumber v i) (not-true (eqb (getD net i 0) (definedNumber v i)) h)
 
-  found-holds : first n (differsFrom (definedNumber v) net) ≡ nowhere → HoldsDefined v net
+  pub found-holds : first n (differsFrom (definedNumber v) net) ≡ nowhere → HoldsDefined v net
   found-holds e =
       ext-getD 0 (take n net) (netList (width v) (defined v)) (length-take-le n net room ∙ sym (length-netList (width v) (defined v)))
       (λ i l. let k : i < n = omega (arith, length-take-le n net room) in
@@ -106,3 +108,15 @@ module _ (v : Multiplicities) (net : List ℕ) (defined-length work : ℕ) (u : 
           let s : k ≡ i = ap placed r in
           let d = first-found (differsFrom (definedNumber v) net) n i (e ∙ ap at s) in
           (d .0, (λ q. false-true (sym (ap not (eq-eqb (getD net i 0) (definedNumber v i) q)) ∙ d .1)), λ j l. same-number j (d .2 j l))
+
+-- an inspection that was not refused read the defined net
+pub passed-holds : (v : Multiplicities) (net : List ℕ) (defined-length work : ℕ) → inspectChecks v net defined-length work ≡ Passed → HoldsDefined v net
+unfolding inspectChecks
+passed-holds v net defined-length work h =
+    let p = places (width v) in
+    let e = if-passed 3 (not (allowed v)) _ h in
+    let f = if-passed 4 (ltb (length net) p || ltb defined-length p || ltb work p) _ (e .1) in
+    let g = or-false (ltb (length net) p || ltb defined-length p) (ltb work p) (f .0) in
+    let k = or-false (ltb (length net) p) (ltb defined-length p) (g .0) in
+    found-holds v net defined-length work emptyUnit (not-true (allowed v) (e .0)) (ltb-false (length net) p (k .0)) (ltb-false defined-length p (k .1)) (ltb-false work p (g .1))
+    (at-passed 14 (first p (differsFrom (definedNumber v) net)) Passed (f .1) .0)

@@ -62,7 +62,7 @@ count-bytes d (x ∷ o) h =
     ap₂ (λ (t : Bool) (n : ℕ). cond t (suc n) n) (same-byte d x (g .0) (g .1)) (count-bytes d o (λ i l. h (suc i) (omega arith)))
 
 -- what a build that passed its checks leaves in the net slice
-built-holds : (o net : List ℕ) (work : ℕ) → buildChecks o (length net) work ≡ Passed → HoldsDefined (orderMultiplicities o) (buildNet o net work)
+pub built-holds : (o net : List ℕ) (work : ℕ) → buildChecks o (length net) work ≡ Passed → HoldsDefined (orderMultiplicities o) (buildNet o net work)
 unfolding buildNet
 built-holds o net work h =
     let w = orderWidth o in

@@ -1,1 +1,3 @@
 pub mod Nets
+pub mod Points
+pub mod Figures

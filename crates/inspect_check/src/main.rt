@@ -105,7 +105,7 @@ fn inspect(
     number.next
 }
 
-// Does what the line at a position says, and answers where to go on.
+// Does what the line at a position says, and answers where to go on. Any other byte, as a newline, is passed over.
 fn line(text: &[u8], at: usize, net: &mut [u32], defined: &mut [u32], work: &mut [i32]) -> usize {
     if at >= text.len() {
         return at;
@@ -123,6 +123,7 @@ fn line(text: &[u8], at: usize, net: &mut [u32], defined: &mut [u32], work: &mut
     at + 1
 }
 
+// A line takes a byte at least, so there are no more lines than bytes.
 fn run(text: &[u8], net: &mut [u32], defined: &mut [u32], work: &mut [i32]) {
     let mut at = 0;
     for turn in 0..text.len() {

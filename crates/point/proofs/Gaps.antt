@@ -1,0 +1,44 @@
+-- The search for a gap as nested loops make it.
+use mathlib.Core.Path.{_≡_, refl, sym, _∙_}
+use mathlib.Core.Logic.{⊎-elim}
+use Prim.Native.Nat.{ℕ, zero, suc, _+_, _≤_, _<_}
+use native.Mathlib.Nat.{le-suc-iff}
+use native.Mathlib.Numerals.{add-one}
+use native.Mathlib.Omega.{arith}
+use Rattle.sums.specs.Search.{Found, nowhere, at}
+use Rattle.point.specs.declared.window.Gap.the-variants.{At, Nowhere}
+use Rattle.sums.proofs.Search.{nowhere-at}
+use Rattle.point.specs.Window.{firstOf, gapOf, Searched}
+
+module _ (f : ℕ → Found) where
+  pub first-of-none : firstOf 0 f ≡ nowhere
+  unfolding firstOf
+  first-of-none = refl
+
+  -- a search that has found nothing yet goes on, or ends here
+  pub first-of-next : (i : ℕ) → firstOf i f ≡ nowhere → f i ≡ nowhere → firstOf (i + 1) f ≡ nowhere
+  unfolding firstOf
+  first-of-next i h k = rw (add-one i) (rw (h, k) refl)
+
+  pub first-of-hit : (n i j : ℕ) → firstOf i f ≡ nowhere → f i ≡ at j → i < n → firstOf n f ≡ at j
+  unfolding firstOf
+  first-of-hit zero i j h k l = absurd (omega arith)
+  first-of-hit (suc n) i j h k l = ⊎-elim
+      (λ (s : suc i ≤ n). rw (first-of-hit n i j h k s) refl)
+      (λ (e : suc i ≡ suc n). let e′ : i ≡ n = omega arith in rw (← e′, h, k) refl)
+      (le-suc-iff .0 l)
+
+-- what a search answers, and what an answer says of the search
+pub searched-hit : (found : Found) (Passed : Type 0) {i : ℕ} → found ≡ at i → Searched found Passed (At i)
+searched-hit found Passed e = record { answers = rw e refl; passed = λ n. absurd (nowhere-at (sym n ∙ e)) }
+
+pub searched-none : (found : Found) (Passed : Type 0) → found ≡ nowhere → Passed → Searched found Passed Nowhere
+searched-none found Passed e p = record { answers = rw e refl; passed = λ n. p }
+
+pub gap-at : (found : Found) {i : ℕ} → gapOf found ≡ At i → found ≡ at i
+gap-at nowhere e = let z : _≡_ {A = ℕ} 0 1 = cc in absurd (omega arith)
+gap-at (at i) e = cc
+
+pub gap-nowhere : (found : Found) → gapOf found ≡ Nowhere → found ≡ nowhere
+gap-nowhere nowhere e = refl
+gap-nowhere (at i) e = let z : _≡_ {A = ℕ} 0 1 = cc in absurd (omega arith)

@@ -1,0 +1,39 @@
+-- Sums of two signed numbers of 64 bits by their sizes, and a correction by its bits.
+use mathlib.Core.Path.{_≡_, refl}
+use mathlib.Core.Bool.{Bool, true, false}
+use mathlib.Core.Logic.{_≢_}
+use Prim.Native.Nat.{ℕ, suc, _+_, _-_, _^_, _≤_, _<_}
+use native.Mathlib.Omega.{arith}
+use lib.Dec.{eqb}
+use lib.IntN.{ℤ, pos, negsuc, _+ℤ_, natAbs}
+use borrow.Author.Tests.{eq-eqb, ne-eqb, eqb-true, eqb-false}
+use mir.Syntax.{w16, w64}
+use mir.Val.{SFits, toZ, ofZ}
+use mir.Facts.{toZ-ofZ}
+use Rattle.sums.proofs.Signed.{abs-add}
+use Rattle.sums.proofs.Accumulator.{fits}
+use Rattle.point.specs.Blending.{isGap}
+
+module _ (a b : ℤ) (h : natAbs a + natAbs b < 2 ^ 63) where
+  pub add-fits : SFits w64 (toZ w64 (ofZ w64 a) +ℤ toZ w64 (ofZ w64 b))
+  add-fits =
+      let s = abs-add a b in
+      rw (toZ-ofZ (fits w64 a (omega arith)), toZ-ofZ (fits w64 b (omega arith))) (fits w64 (a +ℤ b) (omega arith))
+
+  pub add-read : toZ w64 (ofZ w64 (toZ w64 (ofZ w64 a) +ℤ toZ w64 (ofZ w64 b))) ≡ a +ℤ b
+  add-read =
+      let s = abs-add a b in
+      rw (toZ-ofZ (fits w64 a (omega arith)), toZ-ofZ (fits w64 b (omega arith))) (toZ-ofZ (fits w64 (a +ℤ b) (omega arith)))
+
+-- −32768 is 32768 in 16 bits, and any other correction is smaller in size
+gap-by : (n : ℕ) → n < 32768 → (t : Bool) → eqb n 32767 ≡ t → eqb (65536 - suc n) 32768 ≡ t
+gap-by n h true e = eq-eqb (65536 - suc n) 32768 (let k = eqb-true n 32767 e in omega arith)
+gap-by n h false e = ne-eqb (65536 - suc n) 32768 (λ k. eqb-false n 32767 e (omega arith))
+
+pub gap-bits : (z : ℤ) → SFits w16 z → eqb (ofZ w16 z) 32768 ≡ isGap z
+gap-bits (pos n) f = let h = f .sfits in ne-eqb n 32768 (λ k. omega arith)
+gap-bits (negsuc n) f = gap-by n (f .sfits) (eqb n 32767) refl
+
+pub measured-size : (z : ℤ) → SFits w16 z → isGap z ≡ false → natAbs z ≤ 32767
+measured-size (pos n) f e = let h = f .sfits in omega arith
+measured-size (negsuc n) f e = let h = f .sfits in let k : n ≢ 32767 = eqb-false n 32767 e in omega arith

@@ -1,0 +1,51 @@
+-- Sums over the window as a loop makes them, and their sizes.
+use mathlib.Core.Path.{_≡_, refl}
+use Prim.Native.Nat.{ℕ, _+_, _*_, _^_, _≤_, _<_}
+use native.Mathlib.Nat.{mul-le-mul}
+use native.Mathlib.Omega.{arith}
+use lib.IntN.{ℤ, pos, natAbs}
+use mir.Syntax.{w16}
+use mir.Val.{SFits}
+use Rattle.sums.proofs.Sum.{sum-zero, sum-next}
+use Rattle.sums.proofs.SumZ.{sumZ-zero, sumZ-next}
+use Rattle.sums.proofs.Signed.{abs-add, abs-mul}
+use Rattle.sums.proofs.Accumulator.{fits-size}
+use Rattle.point.specs.declared.window.Sums.{Sums}
+use Rattle.point.specs.Window.{sums, entrySums, addSums, sumsTo, Small}
+
+-- no turn, and one turn more
+pub sums-none : (f : ℕ → Sums) → sums 0 (pos 0) 0 ≡ sumsTo 0 f
+unfolding sumsTo
+sums-none f = rw (sum-zero (λ i. f i .shares), sumZ-zero (λ i. f i .corrections), sum-zero (λ i. f i .uncertainties)) refl
+
+pub sums-next : (f : ℕ → Sums) (i : ℕ) {t s : Sums} → t ≡ sumsTo i f → s ≡ f i → addSums t s ≡ sumsTo (i + 1) f
+unfolding sumsTo
+sums-next f i e d =
+    rw (e, d, sum-next i (λ j. f j .shares), sumZ-next i (λ j. f j .corrections), sum-next i (λ j. f j .uncertainties)) refl
+
+pub small-none : Small 0 (sums 0 (pos 0) 0)
+small-none = record { shares-small = omega arith; corrections-small = omega arith; uncertainties-small = omega arith }
+
+pub small-add : {a b : ℕ} {s t : Sums} (n : ℕ) → Small a s → Small b t → a + b ≤ n → Small n (addSums s t)
+small-add {s = s} {t = t} n h k l =
+    let z = abs-add (s .corrections) (t .corrections) in
+    record { shares-small = omega arith; corrections-small = omega arith; uncertainties-small = omega arith }
+
+pub small-more : {a : ℕ} {s : Sums} (n : ℕ) → Small a s → a ≤ n → Small n s
+small-more n h l = record { shares-small = omega arith; corrections-small = omega arith; uncertainties-small = omega arith }
+
+-- ---- one entry
+
+module _ (share : ℕ) (correction : ℤ) (uncertainty : ℕ) (hs : share < 2 ^ 32) (hc : SFits w16 correction) (hu : uncertainty < 2 ^ 16) where
+  pub entry-correction : natAbs correction * share ≤ 140737488355328
+  entry-correction = let s : share ≤ 4294967296 = omega arith in mul-le-mul (fits-size w16 correction hc) s
+
+  pub entry-uncertainty : share * uncertainty ≤ 281474976710656
+  entry-uncertainty = let s : share ≤ 4294967296 = omega arith in let u : uncertainty ≤ 65536 = omega arith in mul-le-mul s u
+
+  pub small-entry : Small 1 (entrySums share correction uncertainty)
+  small-entry =
+      let c = entry-correction in
+      let u = entry-uncertainty in
+      let e = abs-mul (pos share) correction in
+      record { shares-small = omega arith; corrections-small = omega arith; uncertainties-small = omega arith }

@@ -1,0 +1,77 @@
+use lib.Seq.{getD-set-same, getD-set-other}
+use lib.ListN.{length, getD, set, length-set}
+use borrow.Author.Count.{below-more}
+use native.Mathlib.Numerals.{add-one}
+use native.Mathlib.Nat.{pow-zero, pow-suc}
+use Prim.Native.Nat.{ℕ, _+_, _*_, _-_, _^_, _≤_, _<_}
+use mathlib.Core.Path.{_≡_, refl, _∙_}
+use native.Mathlib.Omega.{arith}
+use Rattle.point.proofs.bernstein.powers.Statement.{statement}
+use Rattle.point.proofs.bernstein.powers.Tie as tie
+
+abbrev Inv-loop : tie.InvT-loop
+Inv-loop base m p₀ i₀ p i = (i ≤ m) × (length p ≡ 10) × ((j : ℕ) → j < i + 1 → getD p j 0 ≡ base ^ j)
+
+abbrev μ-loop : tie.MeasureT-loop
+μ-loop base m p₀ i₀ p i = m - i
+
+step : (c : tie.In-loop Inv-loop μ-loop) → getD (c .before .loop .p) (c .before .loop .i) 0 * c .before .before .args .base ≡ c .before .before .args .base ^ (c .before .loop .i + 1)
+step c = rw (add-one (c .before .loop .i), pow-suc (c .before .before .args .base) (c .before .loop .i), c .before .loop .inv .2 (c .before .loop .i) (omega arith)) refl
+
+loop-holds : tie.Need-loop-holds Inv-loop μ-loop
+loop-holds c = (omega arith, refl, λ j l. let e : j ≡ 0 = omega arith in rw (e, pow-zero (c .args .base)) refl)
+
+mul-p : tie.Need-mul-p Inv-loop μ-loop
+mul-p c = omega arith
+
+array-read-p : tie.Need-array-read-p Inv-loop μ-loop
+array-read-p c = omega arith
+
+mul-p-2 : tie.Need-mul-p-2 Inv-loop μ-loop
+mul-p-2 c = omega (arith, step c, c .before .before .pre .1 (c .before .loop .i + 1) (omega arith))
+
+add-p : tie.Need-add-p Inv-loop μ-loop
+add-p c = omega arith
+
+mul-p-3 : tie.Need-mul-p-3 Inv-loop μ-loop
+mul-p-3 c = omega arith
+
+array-write-p : tie.Need-array-write-p Inv-loop μ-loop
+array-write-p c = omega arith
+
+add-i : tie.Need-add-i Inv-loop μ-loop
+add-i c = omega arith
+
+loop-less : tie.Need-loop-less Inv-loop μ-loop
+loop-less c = omega arith
+
+loop-again : tie.Need-loop-again Inv-loop μ-loop
+loop-again c =
+    let at = c .before .loop in
+    let v = getD (at .p) (at .i) 0 * c .before .before .args .base in
+    let here : getD (set (at .p) (at .i + 1) v) (at .i + 1) 0 ≡ c .before .before .args .base ^ (at .i + 1) = getD-set-same (at .p) (at .i + 1) v 0 (omega arith) ∙ step c in (
+      omega arith,
+      length-set (at .p) (at .i + 1) v ∙ at .inv .1,
+      below-more _ (at .i + 1) (λ j l. getD-set-other (at .p) (at .i + 1) j v 0 (λ e. omega arith) ∙ at .inv .2 j l) here,
+    )
+
+returns : tie.Need-returns Inv-loop μ-loop
+returns c = λ j l. c .before .loop .inv .2 j (omega arith)
+
+pub powers-spec : {M : Type 1} → statement M
+powers-spec =
+    tie.close
+    (tie.spec
+    Inv-loop
+    μ-loop
+    loop-holds
+    mul-p
+    array-read-p
+    mul-p-2
+    add-p
+    mul-p-3
+    array-write-p
+    add-i
+    loop-less
+    loop-again
+    returns)

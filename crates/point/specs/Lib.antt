@@ -1,0 +1,6 @@
+pub mod Placing
+pub mod Blending
+pub mod Answer
+pub mod Window
+pub mod Portion
+pub mod Valuing
