@@ -59,8 +59,33 @@ impl Case {
         self
     }
 
+    // A byte of the file: the sizes, corrections of either sign, and uncertainties below 32768.
     fn byte(self, k: usize) -> u8 {
-        (k % 256) as u8
+        let at = self.at;
+        if k == at {
+            return (self.word % 256) as u8;
+        }
+        if at < k {
+            if k - at == 1 {
+                return (self.word / 256) as u8;
+            }
+        }
+        match k {
+            0 => (self.n1 % 256) as u8,
+            1 => (self.n1 / 256) as u8,
+            2 => (self.n2 % 256) as u8,
+            3 => (self.n2 / 256) as u8,
+            4 => (self.n3 % 256) as u8,
+            5 => (self.n3 / 256) as u8,
+            _ => {
+                let mixed = k % 4096 * 37 + 11;
+                if k < self.second {
+                    (mixed % 256) as u8
+                } else {
+                    (mixed % 128) as u8
+                }
+            }
+        }
     }
 
     fn write(self) {
@@ -191,6 +216,70 @@ fn run(case: Case) {
     try_load(case, &mut file, &mut corrections, &mut uncertainties);
 }
 
-fn main() {
+// The smallest and the largest blocks, and sizes out of limits.
+fn try_sizes() {
     run(Case::of(1, 1, 1, 1));
+    run(Case::of(2, 3, 5, 30));
+    run(Case::of(64, 64, 1, 4096));
+    run(Case::of(1, 64, 64, 4096));
+    run(Case::of(16, 16, 16, 4096));
+    run(Case::of(0, 1, 1, 0));
+    run(Case::of(1, 0, 1, 0));
+    run(Case::of(1, 1, 0, 0));
+    run(Case::of(65, 1, 1, 65));
+    run(Case::of(1, 65, 1, 65));
+    run(Case::of(1, 1, 65, 65));
+    run(Case::of(64, 64, 2, 8192));
+    run(Case::of(257, 1, 1, 1));
+    run(Case::of(65535, 65535, 65535, 1));
+}
+
+// Lengths of the file. Bad sizes come before a bad length, and a short header before both.
+fn try_lengths() {
+    run(Case::of(1, 1, 1, 1).with_length(0));
+    run(Case::of(0, 1, 1, 0).with_length(5));
+    run(Case::of(1, 1, 1, 1).with_length(5));
+    run(Case::of(1, 1, 1, 1).with_length(6));
+    run(Case::of(0, 1, 1, 0).with_length(7));
+    run(Case::of(1, 1, 1, 1).with_length(9));
+    run(Case::of(1, 1, 1, 1).with_length(11));
+    run(Case::of(16, 16, 16, 4096).with_length(16389));
+    run(Case::of(16, 16, 16, 4096).with_length(16391));
+}
+
+// The limit of uncertainties, at the first and the last entry and at many, and corrections of -32768.
+fn try_numbers() {
+    run(Case::of(2, 3, 5, 30).with_word(66, 32768));
+    run(Case::of(2, 3, 5, 30).with_word(124, 32767));
+    run(Case::of(2, 3, 5, 30).with_word(124, 32768));
+    run(Case::of(16, 16, 16, 4096).with_word(16388, 32767));
+    run(Case::of(16, 16, 16, 4096).with_word(16388, 32768));
+    run(Case::of(2, 3, 7, 42).unlimited());
+    run(Case::of(2, 3, 5, 30).with_word(6, 32768));
+    run(Case::of(2, 3, 5, 30).with_word(64, 32768));
+}
+
+// Lengths of the slices, alone and with an earlier fault.
+fn try_slices() {
+    run(Case::of(2, 3, 5, 30).with_room(30, 30));
+    run(Case::of(2, 3, 5, 30).with_room(29, 30));
+    run(Case::of(2, 3, 5, 30).with_room(30, 29));
+    run(Case::of(2, 3, 5, 30).with_room(0, 0));
+    run(Case::of(16, 16, 16, 4096).with_room(4096, 4096));
+    run(Case::of(16, 16, 16, 4096).with_room(4095, 4096));
+    run(Case::of(16, 16, 16, 4096).with_room(4096, 4095));
+    run(
+        Case::of(2, 3, 5, 30)
+            .with_word(124, 32768)
+            .with_room(29, 29),
+    );
+    run(Case::of(2, 3, 5, 30).with_length(125).with_room(29, 29));
+    run(Case::of(65, 1, 1, 65).with_room(29, 29));
+}
+
+fn main() {
+    try_sizes();
+    try_lengths();
+    try_numbers();
+    try_slices();
 }
