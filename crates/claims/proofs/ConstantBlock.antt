@@ -20,20 +20,23 @@ use Rattle.spline.specs.Multiplicities.{Multiplicities, degree, extent}
 use Rattle.spline.specs.Place.{Axis, a1, a2, a3}
 use Rattle.unit.proofs.Limits.{net-limits}
 use Rattle.unit.specs.Unit.{netOf}
+use Rattle.unit.specs.declared.Checked.the-variants.{Passed}
 use Rattle.unit.specs.declared.Unit.{Unit}
+use Rattle.placing.proofs.Order.{weights-add-up}
+use Rattle.placing.proofs.Placed.{placed}
+use Rattle.placing.specs.Place.{pointChecks, scale}
+use Rattle.placing.specs.Placing.{cell, placing, sizes, weightSum}
+use Rattle.point.proofs.Answers.{fit, lent, point-valued, value-is}
+use Rattle.point.proofs.LocalPlaces.{local-le}
+use Rattle.point.proofs.Windows.{entry-in}
+use Rattle.point.specs.Answer.{correctionAt, lentChecks, numberAt, pointAnswer, uncertaintyAt}
+use Rattle.point.specs.Blending.{blendedCorrection, firstGap, inWindowOn, isGap, localPlace, numerator, share, shareSum, uncertainty, windowGap}
+use Rattle.point.specs.declared.PointAnswer.the-variants.{Value}
 use Rattle.claims.proofs.Inspector.{passed-holds}
 use Rattle.claims.proofs.Orders.{built-holds}
 use Rattle.claims.proofs.WindowShares.{adds-up, window-shares}
 use Rattle.claims.specs.Nets.{HoldsDefined}
 use Rattle.claims.specs.Points.{BuiltOrPassed, Constant, built, passed}
-use Rattle.point.proofs.Answers.{fit, lent-facts, placed-facts, point-valued, value-is}
-use Rattle.point.proofs.LocalPlaces.{local-le}
-use Rattle.point.proofs.Order.{weights-add-up}
-use Rattle.point.proofs.Windows.{entry-in}
-use Rattle.point.specs.Answer.{correctionAt, lentRefusal, numberAt, placeRefusal, pointAnswer, scale, sizes, uncertaintyAt}
-use Rattle.point.specs.Blending.{blendedCorrection, firstGap, inWindowOn, isGap, numerator, share, shareSum, uncertainty, windowGap}
-use Rattle.point.specs.Placing.{cell, localPlace, placing, weightSum}
-use Rattle.point.specs.declared.PointAnswer.the-variants.{Value}
 
 and-false : (a : Bool) → (a && false) ≡ false
 and-false true = refl
@@ -75,25 +78,25 @@ numerator-constant v net entry x y z D c h =
 -- the net slice holds the defined net of the unit's multiplicities
 constant-held : (u : Unit) (net : List ℕ) (corrections : List ℤ) (uncertainties : List ℕ) (x y z D : ℕ) (c : ℤ)
     → HoldsDefined (netOf u) net → Constant (places (sizes u)) corrections c
-    → lentRefusal u (length net) (length corrections) (length uncertainties) ≡ 0 → placeRefusal u x y z D ≡ 0
+    → lentChecks u (length net) (length corrections) (length uncertainties) ≡ Passed → pointChecks u x y z D ≡ Passed
     → (U : ℕ) × (pointAnswer u net corrections uncertainties x y z D
     ≡ Value (record { numerator = c *ℤ pos (scale (degree (netOf u)) D); uncertainty = U; denominator = scale (degree (netOf u)) D }))
-constant-held u net corrections uncertainties x y z D c holds block lent inside =
+constant-held u net corrections uncertainties x y z D c holds block passes inside =
     let v = netOf u in
     let q = placing x y z D in
-    let l = lent-facts u (length net) (length corrections) (length uncertainties) lent in
-    let m = net-limits u (l .net-held) .limits in
+    let l = lent u (length net) (length corrections) (length uncertainties) passes in
+    let m = net-limits u (l .unit .net-held) .limits in
     let p : Positive v = record { p1 = m .least1; p2 = m .least2; p3 = m .least3; p4 = m .least4 } in
-    let f = fit u (length net) (length corrections) (length uncertainties) x y z D l (placed-facts u x y z D inside) in
+    let f = fit u (length net) (length corrections) (length uncertainties) x y z D l (placed u x y z D inside) in
     let entry : (i1 i2 i3 : ℕ) → i1 < extent v a1 → i2 < extent v a2 → i3 < extent v a3 → correctionAt (sizes u) corrections (q .k1 - i1) (q .k2 - i2) (q .k3 - i3) ≡ c
     = λ i1 i2 i3 l1 l2 l3. block .throughout _ (entry-in u q (length net) (length corrections) (length uncertainties) f (q .k1 - i1) (q .k2 - i2) (q .k3 - i3) (omega arith) (omega arith) (omega arith)) in
     let N : numerator v (numberAt net) (correctionAt (sizes u) corrections) q ≡ c *ℤ pos (scale (degree v) D)
     = numerator-constant v (numberAt net) (correctionAt (sizes u) corrections) x y z D c
     (λ b0 b1 b2 b3 e. blended-constant v (numberAt net) (correctionAt (sizes u) corrections) (cell q) (localPlace q b1 b2 b3) c entry
     (window-shares v p net (l .net-long) holds (localPlace q b1 b2 b3) (local-le q b1 b2 b3 (degree v) (omega arith))))
-    ∙ ap (λ (d : ℕ). c *ℤ pos (scale (degree v) d)) (weights-add-up x y z D (placed-facts u x y z D inside .some)) in (
+    ∙ ap (λ (d : ℕ). c *ℤ pos (scale (degree v) d)) (weights-add-up x y z D (placed u x y z D inside .some)) in (
       uncertainty v (numberAt net) (uncertaintyAt (sizes u) uncertainties) q,
-      point-valued u net corrections uncertainties x y z D lent inside
+      point-valued u net corrections uncertainties x y z D passes inside
           ∙ value-is v (sizes u) (numberAt net) (correctionAt (sizes u) corrections) (uncertaintyAt (sizes u) uncertainties) q D (constant-measured v (sizes u) (cell q) corrections c (block .measured) (block .throughout)) (adds-up v p net (l .net-long) holds x y z D)
           ∙ ap (λ (w : ℤ). Value (record { numerator = w; uncertainty = uncertainty v (numberAt net) (uncertaintyAt (sizes u) uncertainties) q; denominator = scale (degree v) D })) N,
     )
@@ -108,9 +111,9 @@ holds-of (passed v n d w h) = passed-holds v n d w h
 pub constant-block : (v : Multiplicities) (s : List ℕ) → BuiltOrPassed v s
     → (u : Unit) → netOf u ≡ v → (net : List ℕ) → take (places (width v)) net ≡ take (places (width v)) s
     → (corrections : List ℤ) (c : ℤ) → Constant (places (sizes u)) corrections c
-    → (uncertainties : List ℕ) (x y z D : ℕ) → lentRefusal u (length net) (length corrections) (length uncertainties) ≡ 0 → placeRefusal u x y z D ≡ 0
+    → (uncertainties : List ℕ) (x y z D : ℕ) → lentChecks u (length net) (length corrections) (length uncertainties) ≡ Passed → pointChecks u x y z D ≡ Passed
     → (U : ℕ) × (pointAnswer u net corrections uncertainties x y z D
     ≡ Value (record { numerator = c *ℤ pos (scale (degree v) D); uncertainty = U; denominator = scale (degree v) D }))
-constant-block v s made u alike net still corrections c block uncertainties x y z D lent inside =
+constant-block v s made u alike net still corrections c block uncertainties x y z D passes inside =
     subst (λ (w : Multiplicities). (U : ℕ) × (pointAnswer u net corrections uncertainties x y z D ≡ Value (record { numerator = c *ℤ pos (scale (degree w) D); uncertainty = U; denominator = scale (degree w) D }))) alike
-    (constant-held u net corrections uncertainties x y z D c (subst (λ (w : Multiplicities). HoldsDefined w net) (sym alike) (still ∙ holds-of made)) block lent inside)
+    (constant-held u net corrections uncertainties x y z D c (subst (λ (w : Multiplicities). HoldsDefined w net) (sym alike) (still ∙ holds-of made)) block passes inside)

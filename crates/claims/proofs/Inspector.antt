@@ -5,7 +5,7 @@ use mathlib.Core.Logic.{_↔_}
 use mathlib.Core.Path.{_∙_, _≡_, ap, refl, sym}
 use Prim.Native.Nat.{_<_, _≤_, ℕ}
 use native.Mathlib.Omega.{arith}
-use borrow.Author.Tests.{eq-eqb, eqb-true, le-ltb, ltb-false}
+use borrow.Author.Tests.{eq-eqb, eqb-true, le-ltb, ltb-false, not-false}
 use lib.Dec.{eqb, ltb}
 use lib.ListN.{getD, length, take}
 use lib.Seq.{ext-getD, getD-take, length-take-le}
@@ -26,11 +26,10 @@ use Rattle.unit.specs.declared.Checked.the-variants.{Passed}
 use Rattle.unit.specs.declared.Unit.{Unit}
 use Rattle.unit.specs.declared.UnitAnswer.{UnitAnswer}
 use Rattle.unit.specs.declared.UnitAnswer.the-variants.{Changed, Refused}
+use Rattle.net.proofs.Accepted.{or-false}
+use Rattle.inspection.specs.Inspect.{definedNumber, differsFrom, inspectAnswer, inspectChecks}
 use Rattle.claims.proofs.Plain.{plain-defined, repeat-or-none}
 use Rattle.claims.specs.Nets.{HoldsDefined, RightNumbers}
-use Rattle.net.proofs.Accepted.{or-false}
-use Rattle.net.proofs.Orders.{not-true}
-use Rattle.net.specs.Inspect.{definedNumber, differsFrom, inspectAnswer, inspectChecks}
 
 abbrev placed : UnitAnswer → ℕ
 placed (Changed u) = 0
@@ -67,7 +66,7 @@ module _ (v : Multiplicities) (net : List ℕ) (defined-length work : ℕ) (u : 
 
   -- the numbers are those of the defined net
   same-number : (i : ℕ) → differsFrom (definedNumber v) net i ≡ false → getD net i 0 ≡ definedNumber v i
-  same-number i h = eqb-true (getD net i 0) (definedNumber v i) (not-true (eqb (getD net i 0) (definedNumber v i)) h)
+  same-number i h = eqb-true (getD net i 0) (definedNumber v i) (not-false (eqb (getD net i 0) (definedNumber v i)) h)
 
   pub found-holds : first n (differsFrom (definedNumber v) net) ≡ nowhere → HoldsDefined v net
   found-holds e =
@@ -118,5 +117,5 @@ passed-holds v net defined-length work h =
     let f = if-passed 4 (ltb (length net) p || ltb defined-length p || ltb work p) _ (e .1) in
     let g = or-false (ltb (length net) p || ltb defined-length p) (ltb work p) (f .0) in
     let k = or-false (ltb (length net) p) (ltb defined-length p) (g .0) in
-    found-holds v net defined-length work emptyUnit (not-true (allowed v) (e .0)) (ltb-false (length net) p (k .0)) (ltb-false defined-length p (k .1)) (ltb-false work p (g .1))
+    found-holds v net defined-length work emptyUnit (not-false (allowed v) (e .0)) (ltb-false (length net) p (k .0)) (ltb-false defined-length p (k .1)) (ltb-false work p (g .1))
     (at-passed 14 (first p (differsFrom (definedNumber v) net)) Passed (f .1) .0)

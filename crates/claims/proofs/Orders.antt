@@ -21,11 +21,11 @@ use Rattle.unit.specs.declared.Checked.{Checked}
 use Rattle.unit.specs.declared.Checked.the-variants.{Passed}
 use Rattle.unit.specs.declared.Unit.{Unit}
 use Rattle.unit.specs.declared.UnitAnswer.the-variants.{Changed, Refused}
-use Rattle.claims.specs.Nets.{HoldsDefined, countByte}
 use Rattle.net.proofs.Accepted.{build-accepted}
 use Rattle.net.proofs.Orders.{good-byte}
 use Rattle.net.specs.Build.{buildAnswer, buildNet}
 use Rattle.net.specs.Order.{buildChecks, orderWidth}
+use Rattle.claims.specs.Nets.{HoldsDefined, countByte}
 
 byteOf : Direction → ℕ
 byteOf (along a1) = 1

@@ -6,7 +6,6 @@ use Prim.Native.Nat.{ℕ}
 use Rattle.spline.proofs.Chain.{exists, only-one}
 use Rattle.spline.specs.Build.{Follows, direction, orderNet, simple}
 use Rattle.spline.specs.Place.{Net}
-use Rattle.net.proofs.DefinedBytes.{order}
 
 pub rule : (order : List ℕ) (R : Net) → Follows (map direction order) 1 simple R ↔ (R ≡ orderNet order)
 rule order R = (only-one (map direction order) R, λ e. subst (Follows (map direction order) 1 simple) (sym e) (exists (map direction order)))

@@ -20,11 +20,11 @@ use Rattle.spline.specs.Box.{index, places, width}
 use Rattle.spline.specs.Defined.{defined}
 use Rattle.spline.specs.Multiplicities.{Multiplicities, degree, extent}
 use Rattle.spline.specs.Place.{Axis, a1, a2, a3, place}
-use Rattle.claims.specs.Nets.{HoldsDefined}
+use Rattle.placing.specs.Placing.{placing}
 use Rattle.point.proofs.LocalPlaces.{local-le}
 use Rattle.point.specs.Answer.{numberAt}
-use Rattle.point.specs.Blending.{addsUp, allSimplex, share, shareSum}
-use Rattle.point.specs.Placing.{localPlace, placing}
+use Rattle.point.specs.Blending.{addsUp, allSimplex, localPlace, share, shareSum}
+use Rattle.claims.specs.Nets.{HoldsDefined}
 
 module _ (v : Multiplicities) (p : Positive v) (net : List ℕ) (room : places (width v) ≤ length net) (h : HoldsDefined v net) where
   -- a number of the slice at a place of the box

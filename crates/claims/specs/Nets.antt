@@ -1,16 +1,16 @@
 -- What demand 3 speaks of: document 01, section "What demand 3 speaks of".
-use mathlib.Core.Path.{_≡_}
 use mathlib.Core.Bool.{cond}
 use mathlib.Core.List.{List, [], _∷_}
-use Prim.Native.Nat.{ℕ, suc}
+use mathlib.Core.Path.{_≡_}
+use Prim.Native.Nat.{suc, ℕ}
 use lib.Dec.{eqb}
 use lib.ListN.{take}
+use Rattle.spline.specs.Box.{netList, places, spread, width}
+use Rattle.spline.specs.Build.{simple}
+use Rattle.spline.specs.Defined.{defined}
+use Rattle.spline.specs.Multiplicities.{HasRepeat, Multiplicities, degree, fewer}
 use Rattle.spline.specs.Place.{Direction}
 use Rattle.spline.specs.Rule.{Obeys}
-use Rattle.spline.specs.Build.{simple}
-use Rattle.spline.specs.Multiplicities.{Multiplicities, degree, fewer, HasRepeat}
-use Rattle.spline.specs.Defined.{defined}
-use Rattle.spline.specs.Box.{width, places, netList, spread}
 
 -- how often a byte stands in an order: "equal counts of each byte"
 abbrev pub countByte : ℕ → List ℕ → ℕ

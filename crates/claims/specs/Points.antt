@@ -1,15 +1,15 @@
 -- What demand 3 speaks of at points: document 01, section "What demand 3 speaks of".
-use mathlib.Core.Path.{_≡_}
 use mathlib.Core.Bool.{false}
 use mathlib.Core.List.{List}
-use Prim.Native.Nat.{ℕ, _<_}
-use lib.IntN.{ℤ, pos}
+use mathlib.Core.Path.{_≡_}
+use Prim.Native.Nat.{_<_, ℕ}
+use lib.IntN.{pos, ℤ}
 use lib.ListN.{getD, length}
 use Rattle.spline.specs.Multiplicities.{Multiplicities, orderMultiplicities}
 use Rattle.unit.specs.declared.Checked.the-variants.{Passed}
-use Rattle.net.specs.Order.{buildChecks}
 use Rattle.net.specs.Build.{buildNet}
-use Rattle.net.specs.Inspect.{inspectChecks}
+use Rattle.net.specs.Order.{buildChecks}
+use Rattle.inspection.specs.Inspect.{inspectChecks}
 use Rattle.point.specs.Blending.{isGap}
 
 -- "A net was built or passed where a build that was not refused wrote it, or an inspection that was not refused read it.": the

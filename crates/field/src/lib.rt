@@ -41,7 +41,7 @@ impl Sizes {
     fn entries(self) -> usize
         ensures { λ r. ⌜ r ≡ self .n1 * self .n2 * self .n3 ⌝ }
     {
-        self.n1 as usize * self.n2 as usize * self.n3 as usize
+        shape::entries_of(self.n1, self.n2, self.n3)
     }
 }
 

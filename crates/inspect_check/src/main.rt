@@ -72,7 +72,7 @@ fn answer_of(
     let a = input::within(lengths.net, net.len());
     let b = input::within(lengths.defined, defined.len());
     let c = input::within(lengths.work, work.len());
-    net::inspect(
+    inspection::inspect(
         stale_unit(),
         v.v1,
         v.v2,

@@ -4,19 +4,13 @@ use mathlib.Core.List.{List}
 use mathlib.Core.Path.{_≡_, refl}
 use Prim.Native.Nat.{_≤_, ℕ}
 use native.Mathlib.Omega.{arith}
-use borrow.Author.Tests.{ltb-false}
+use borrow.Author.Tests.{le-ltb, ltb-false}
 use lib.Dec.{ltb}
 use lib.ListN.{getD, length}
 use Rattle.sums.specs.Search.{first}
-use Rattle.spline.proofs.Multiplicities.{Positive}
-use Rattle.spline.specs.Multiplicities.{allowed}
 use Rattle.unit.proofs.Checks.{at-passed, if-passed, then-passed}
-use Rattle.unit.proofs.Limits.{allowed-limits}
 use Rattle.unit.specs.declared.Checked.the-variants.{Passed}
-use Rattle.net.proofs.DefinedBytes.{order}
 use Rattle.net.specs.Order.{GoodOrder, badByte, buildChecks, orderChecks, orderPlaces}
-use Rattle.net.specs.Shape.{Limited, counted}
-use Rattle.net.specs.declared.shape.Counts.{Counts}
 
 pub order-accepted : (order : List ℕ) → orderChecks order ≡ Passed → GoodOrder order
 unfolding orderChecks
@@ -40,11 +34,8 @@ build-accepted order net work h =
     let f = or-false (ltb net (orderPlaces order)) (ltb work (orderPlaces order)) (if-passed 4 (ltb net (orderPlaces order) || ltb work (orderPlaces order)) Passed (e .1) .0) in
     record { good = order-accepted order (e .0); net-room = ltb-false net (orderPlaces order) (f .0); work-room = ltb-false work (orderPlaces order) (f .1) }
 
--- multiplicities within their limits
-pub counts-limited : (c : Counts) → allowed (counted c) ≡ true → Limited c 12
-counts-limited c h =
-    let l = allowed-limits (counted c) h in
-    record { least1 = l .least1; least2 = l .least2; least3 = l .least3; least4 = l .least4; most = l .sum }
-
-pub limited-positive : (c : Counts) (n : ℕ) → Limited c n → Positive (counted c)
-limited-positive c n l = record { p1 = l .least1; p2 = l .least2; p3 = l .least3; p4 = l .least4 }
+-- an order to which neither applies passes where the slices have room
+pub build-passes : (order : List ℕ) (net work : ℕ) → BuildAccepted order net work → buildChecks order net work ≡ Passed
+unfolding buildChecks orderChecks
+build-passes order net work h =
+    simp (le-ltb 8 (length order) (h .good .short), h .good .good, le-ltb net (orderPlaces order) (h .net-room), le-ltb work (orderPlaces order) (h .work-room))

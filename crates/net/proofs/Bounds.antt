@@ -7,7 +7,6 @@ use native.Mathlib.Omega.{arith}
 use lib.IntN.{pos}
 use Rattle.spline.specs.Build.{isOne, simple}
 use Rattle.spline.specs.Place.{place}
-use Rattle.net.specs.declared.shape.Shape.{Shape}
 
 pub product-bound : (g x m : ℕ) → g ≤ 8 → x ≤ 100 → g * (x / m) ≤ 800
 product-bound g x m hg hx = mul-le-mul hg (le-trans (div-le-self x m) hx)
@@ -16,10 +15,6 @@ pub row-bounds : (y z w1 w2 : ℕ) → y ≤ 91 → z ≤ 91 → w1 ≤ 91 → w
 row-bounds y z w1 w2 hy hz h1 h2 =
     let p : w2 * z ≤ 91 * 91 = mul-le-mul h2 hz in
     (omega arith, mul-le-mul {m₂ = 8372} h1 (omega arith))
-
-pub shape-cong : {m w1 w2 w3 m′ w1′ w2′ w3′ : ℕ} → m ≡ m′ → w1 ≡ w1′ → w2 ≡ w2′ → w3 ≡ w3′
-    → _≡_ {A = Shape} (record { m = m; w1 = w1; w2 = w2; w3 = w3 }) (record { m = m′; w1 = w1′; w2 = w2′; w3 = w3′ })
-shape-cong p q r s = rw (p, q, r, s)
 
 -- the simple net is 0 but at (1, 1, 1)
 one-or-zero : (n : ℕ) → (n ≡ 1) ⊎ (isOne (pos n) ≡ 0)

@@ -6,4 +6,3 @@ pub mod Orders
 pub mod Bounds
 pub mod TakenUp
 pub mod Accepted
-pub mod DefinedBytes

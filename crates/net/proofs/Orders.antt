@@ -1,12 +1,12 @@
 -- Orders as bytes: each byte good, one byte more, and the limits that they keep.
-use mathlib.Core.Bool.{Bool, _&&_, and-eq-true-iff, false, not, true}
+use mathlib.Core.Bool.{_&&_, and-eq-true-iff}
 use mathlib.Core.List.{List, [], _++_, _∷_, map, map-append}
-use mathlib.Core.Path.{_∙_, _≡_, ap, refl, subst, sym}
+use mathlib.Core.Path.{_∙_, _≡_, ap, subst, sym}
 use Prim.Native.Nat.{_*_, _+_, _<_, _≤_, ℕ}
 use native.Mathlib.Nat.{le-trans, mul-le-mul}
 use native.Mathlib.Numerals.{add-one}
 use native.Mathlib.Omega.{arith}
-use borrow.Author.Tests.{leb-true}
+use borrow.Author.Tests.{leb-true, not-false}
 use lib.Dec.{leb}
 use lib.ListN.{drop, getD, length, length-map, take, take-append-drop}
 use lib.Seq.{length-take-le, take-suc, take-take}
@@ -21,21 +21,16 @@ use Rattle.spline.specs.Box.{netList, spread, width}
 use Rattle.spline.specs.Build.{built, direction, orderNet, simple, stepped}
 use Rattle.spline.specs.Multiplicities.{Multiplicities, degree, extent, more, multiplicitiesOf, orderMultiplicities}
 use Rattle.spline.specs.Place.{Axis, Direction, Place, a1, a2, a3, along, diagonal}
-use Rattle.net.proofs.DefinedBytes.{order}
+use Rattle.shape.specs.Shape.{Limited, counted}
+use Rattle.shape.specs.declared.Counts.{Counts}
 use Rattle.net.specs.Order.{GoodOrder, badByte, orderPlaces, orderWidth}
-use Rattle.net.specs.Shape.{Limited, counted}
 use Rattle.net.specs.Step.{AtMost}
-use Rattle.net.specs.declared.shape.Counts.{Counts}
-
-pub not-true : (t : Bool) → not t ≡ false → t ≡ true
-not-true true h = refl
-not-true false h = sym h
 
 module _ (order : List ℕ) (good : GoodOrder order) where
   pub good-byte : (t : ℕ) → t < length order → (1 ≤ getD order t 0) × (getD order t 0 ≤ 4)
   good-byte t l =
       let b : ℕ = getD order t 0 in
-      let e = and-eq-true-iff (leb 1 b) (leb b 4) .0 (not-true (leb 1 b && leb b 4) (first-nowhere (λ i. badByte (getD order i 0)) (length order) (good .good) t l)) in
+      let e = and-eq-true-iff (leb 1 b) (leb b 4) .0 (not-false (leb 1 b && leb b 4) (first-nowhere (λ i. badByte (getD order i 0)) (length order) (good .good) t l)) in
       (leb-true 1 b (e .0), leb-true b 4 (e .1))
 
 -- the sum of an order's multiplicities

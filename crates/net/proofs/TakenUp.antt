@@ -1,6 +1,6 @@
 -- One byte taken up: the two passes make the net of the order with this byte of the net before it.
 use mathlib.Core.List.{List, map}
-use mathlib.Core.Path.{_∙_, _≡_, ap, ap₂, fun-ext, refl, subst, sym}
+use mathlib.Core.Path.{_∙_, _≡_, ap, ap₂, subst, sym}
 use Prim.Native.Nat.{_+_, _<_, _≤_, ℕ}
 use native.Mathlib.Nat.{le-trans}
 use native.Mathlib.Omega.{arith}
@@ -14,23 +14,16 @@ use Rattle.spline.proofs.Multiplicities.{order-degree}
 use Rattle.spline.proofs.OrderNet.{order-low}
 use Rattle.spline.specs.Box.{netList, placeOf, places, spread, width}
 use Rattle.spline.specs.Build.{direction, orderNet, stepped}
-use Rattle.spline.specs.Multiplicities.{Multiplicities, degree, more, orderMultiplicities}
-use Rattle.spline.specs.Place.{Axis, Direction, Net, a1, a2, a3}
+use Rattle.spline.specs.Multiplicities.{degree, more, orderMultiplicities}
+use Rattle.spline.specs.Place.{Axis, Direction, Net}
+use Rattle.shape.proofs.Shapes.{shape-widths}
+use Rattle.shape.specs.Shape.{counted, shapeOf, widths}
+use Rattle.shape.specs.declared.Counts.{Counts}
+use Rattle.shape.specs.declared.Shape.{Shape}
 use Rattle.net.proofs.Orders.{length-next, multiplicities-next, net-next, order-at-most, prefix-places, spread-order}
 use Rattle.net.proofs.Telescope.{edge-sum-at}
 use Rattle.net.specs.Order.{GoodOrder, orderNumber, orderPlaces, orderWidth}
-use Rattle.net.specs.Shape.{counted, shapeOf, widths}
 use Rattle.net.specs.Step.{AtMost, NetNumber, NetSums, difference, edgeSum}
-use Rattle.net.specs.declared.shape.Counts.{Counts}
-use Rattle.net.specs.declared.shape.Shape.{Shape}
-
-pub shape-widths : (v : Multiplicities) → widths (shapeOf v) ≡ width v
-shape-widths v = fun-ext axis
-  where
-    axis : (b : Axis) → widths (shapeOf v) b ≡ width v b
-    axis a1 = refl
-    axis a2 = refl
-    axis a3 = refl
 
 pub counted-next : (o : List ℕ) (t : ℕ) (c k : Counts) → t < length o → counted c ≡ orderMultiplicities (take t o) → counted k ≡ more (direction (getD o t 0)) (counted c)
     → counted k ≡ orderMultiplicities (take (t + 1) o)

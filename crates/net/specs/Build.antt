@@ -1,20 +1,20 @@
 -- What a build answers and leaves in its slices: document 01, section "Building".
-use mathlib.Core.Path.{_≡_}
 use mathlib.Core.List.{List, _++_}
+use mathlib.Core.Path.{_≡_}
 use Prim.Native.Nat.{ℕ}
 use lib.IntN.{ℤ}
-use lib.ListN.{length, drop}
+use lib.ListN.{drop, length}
+use Rattle.spline.specs.Box.{netList}
 use Rattle.spline.specs.Build.{orderNet}
 use Rattle.spline.specs.Multiplicities.{orderMultiplicities}
-use Rattle.spline.specs.Box.{netList}
+use Rattle.unit.specs.Checks.{passedOr}
+use Rattle.unit.specs.Unit.{withNet}
+use Rattle.unit.specs.declared.Checked.{Checked}
+use Rattle.unit.specs.declared.Checked.the-variants.{Passed, Stopped}
 use Rattle.unit.specs.declared.Unit.{Unit}
 use Rattle.unit.specs.declared.UnitAnswer.{UnitAnswer}
 use Rattle.unit.specs.declared.UnitAnswer.the-variants.{Changed, Refused}
-use Rattle.unit.specs.declared.Checked.{Checked}
-use Rattle.unit.specs.declared.Checked.the-variants.{Passed, Stopped}
-use Rattle.unit.specs.Unit.{withNet}
-use Rattle.unit.specs.Checks.{passedOr}
-use Rattle.net.specs.Order.{orderWidth, orderPlaces, buildChecks}
+use Rattle.net.specs.Order.{buildChecks, orderPlaces, orderWidth}
 
 -- "and the unit has that net", for slices of these lengths
 unfoldable pub buildAnswer : Unit → List ℕ → ℕ → ℕ → UnitAnswer

@@ -1,18 +1,18 @@
 -- Orders as bytes: their checks, the net and the box that they lead to.
-use mathlib.Core.Path.{_≡_}
-use mathlib.Core.Bool.{Bool, not, _&&_, _||_}
+use mathlib.Core.Bool.{Bool, _&&_, _||_, not}
 use mathlib.Core.List.{List}
-use Prim.Native.Nat.{ℕ, _≤_}
+use mathlib.Core.Path.{_≡_}
+use Prim.Native.Nat.{_≤_, ℕ}
 use lib.Dec.{leb, ltb}
 use lib.ListN.{getD, length}
 use Rattle.sums.specs.Search.{first, nowhere}
+use Rattle.spline.specs.Box.{placeOf, places, width}
 use Rattle.spline.specs.Build.{orderNet}
 use Rattle.spline.specs.Multiplicities.{orderMultiplicities}
 use Rattle.spline.specs.Place.{Axis}
-use Rattle.spline.specs.Box.{width, places, placeOf}
+use Rattle.unit.specs.Checks.{andThen, refuseAt, refuseIf}
 use Rattle.unit.specs.declared.Checked.{Checked}
 use Rattle.unit.specs.declared.Checked.the-variants.{Passed}
-use Rattle.unit.specs.Checks.{refuseIf, refuseAt, andThen}
 
 -- "a byte of the order is not 1 to 4"
 abbrev pub badByte : ℕ → Bool

@@ -2,15 +2,15 @@
 -- of the direction from the box's edge.
 use mathlib.Core.Bool.{cond}
 use mathlib.Core.List.{List}
-use Prim.Native.Nat.{ℕ, zero, suc, _+_, _*_, _/_, _%_, min, _≤_, _<_}
+use Prim.Native.Nat.{_%_, _*_, _+_, _/_, _<_, _≤_, min, suc, zero, ℕ}
 use lib.Dec.{T}
-use lib.IntN.{ℤ, pos, natAbs, subℕ, _+ℤ_}
+use lib.IntN.{_+ℤ_, natAbs, pos, subℕ, ℤ}
 use lib.ListN.{getD}
 use lib.Signed.{nonNeg}
-use Rattle.spline.specs.Place.{Axis, a1, a2, a3, Direction, along, diagonal, moves, Place, place, Net, _⊖_}
-use Rattle.spline.specs.Rule.{lowerAbove, ruleRight}
 use Rattle.spline.specs.Box.{index, placeOf, places, spread}
-use Rattle.net.specs.declared.shape.Vector.{Vector}
+use Rattle.spline.specs.Place.{Axis, Direction, Net, Place, _⊖_, a1, a2, a3, along, diagonal, moves, place}
+use Rattle.spline.specs.Rule.{lowerAbove, ruleRight}
+use Rattle.net.specs.declared.direction.Vector.{Vector}
 
 -- the direction's vector on an axis
 abbrev pub component : Direction → Axis → ℕ

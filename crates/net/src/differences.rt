@@ -9,10 +9,10 @@ ghost use Rattle.spline.specs.Build.{direction};
 ghost use Rattle.spline.specs.Rule.{lowerAbove};
 ghost use Rattle.spline.specs.Place.{place};
 ghost use Rattle.spline.specs.Box.{spread, places, placeOf};
-ghost use Rattle.net.specs.Shape.{Boxed, widths};
+ghost use Rattle.shape.specs.Shape.{Boxed, widths};
 ghost use Rattle.net.specs.Step.{pivotOf, loweredCoordinate, readBack, AtMost, difference};
-use crate::shape;
-use crate::shape::Shape;
+use crate::direction;
+use shape::Shape;
 
 // The remainder that the others are compared with; the degree, which none exceeds, for direction 4.
 fn pivot(d: u8, u1: usize, u2: usize, u3: usize, m: usize) -> usize
@@ -112,7 +112,7 @@ fn difference_at(net: &[u32], old: Shape, d: u8, x: usize, y: usize, z: usize) -
 {
     let g = old.m;
     let m = g + 1;
-    let v = shape::vector_of(d);
+    let v = direction::vector_of(d);
     let a = x + m - v.x;
     let b = y + m - v.y;
     let c = z + m - v.z;
@@ -133,7 +133,7 @@ pub(crate) fn differences(net: &[u32], work: &mut [i32], old: Shape, new: Shape,
 {
     let w1 = new.w1;
     let w2 = new.w2;
-    let n = shape::places_of(new);
+    let n = direction::places_of(new);
     let mut i = 0;
     while i < n {
         let q = i / w1;

@@ -7,11 +7,11 @@ ghost use lib.IntN.{pos, natAbs, _+ℤ_};
 ghost use Rattle.sums.specs.Fill.{filled};
 ghost use Rattle.spline.specs.Build.{direction};
 ghost use Rattle.spline.specs.Box.{places, placeOf};
-ghost use Rattle.net.specs.Shape.{Boxed, widths};
+ghost use Rattle.shape.specs.Shape.{Boxed, widths};
 ghost use Rattle.net.specs.Step.{edgeSum, NetNumber, NetSums};
 use crate::differences;
-use crate::shape;
-use crate::shape::Shape;
+use crate::direction;
+use shape::Shape;
 
 // A net number and a signed change.
 fn plus(a: u32, b: i32) -> u32
@@ -29,8 +29,8 @@ pub(crate) fn sum_lines(net: &mut [u32], work: &[i32], s: Shape, d: u8)
 {
     let w1 = s.w1;
     let w2 = s.w2;
-    let v = shape::vector_of(d);
-    let n = shape::places_of(s);
+    let v = direction::vector_of(d);
+    let n = direction::places_of(s);
     let mut i = 0;
     while i < n {
         let q = i / w1;

@@ -4,10 +4,10 @@ ghost use lib.ListN.{length, getD};
 ghost use Rattle.sums.specs.Search.{first};
 ghost use Rattle.spline.specs.Multiplicities.{orderMultiplicities};
 ghost use Rattle.unit.specs.Checks.{refuseAt};
-ghost use Rattle.net.specs.Shape.{counted, Limited};
+ghost use Rattle.shape.specs.Shape.{counted, Limited};
 ghost use Rattle.net.specs.Order.{badByte, orderChecks, buildChecks, GoodOrder};
-use crate::shape;
-use crate::shape::Counts;
+use crate::direction;
+use shape::Counts;
 use unit::Checked;
 
 // The most repeats of an order.
@@ -47,7 +47,7 @@ pub(crate) fn check_build(order: &[u8], net: usize, work: usize) -> Checked
     if let Checked::Stopped(refusal) = check_order(order) {
         return Checked::Stopped(refusal);
     }
-    let n = shape::places_of(shape::shape_of(counts_of(order)));
+    let n = shape::places_of(counts_of(order));
     if net < n {
         return Checked::stop(4, 0);
     }
@@ -70,7 +70,7 @@ pub(crate) fn counts_of(order: &[u8]) -> Counts
     };
     let mut t = 0;
     while t < order.len() {
-        c = shape::one_more(c, order[t]);
+        c = direction::one_more(c, order[t]);
         t += 1;
     }
     c

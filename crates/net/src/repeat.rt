@@ -7,12 +7,12 @@ ghost use Rattle.sums.specs.Fill.{filled};
 ghost use Rattle.spline.specs.Build.{orderNet};
 ghost use Rattle.spline.specs.Box.{netList};
 ghost use Rattle.spline.specs.Multiplicities.{orderMultiplicities};
-ghost use Rattle.net.specs.Shape.{counted};
+ghost use Rattle.shape.specs.Shape.{counted};
 ghost use Rattle.net.specs.Order.{orderWidth, orderPlaces, orderNumber, GoodOrder};
 use crate::differences;
+use crate::direction;
 use crate::lines;
-use crate::shape;
-use crate::shape::Counts;
+use shape::Counts;
 
 // The number of the simple net at an index of its box: 1 at (1, 1, 1).
 fn simple_number(i: usize) -> u32
@@ -43,7 +43,7 @@ fn take_up(order: &[u8], t: usize, c: Counts, net: &mut [u32], work: &mut [i32])
 {
     let d = order[t];
     let old = shape::shape_of(c);
-    let new = shape::shape_of(shape::one_more(c, d));
+    let new = shape::shape_of(direction::one_more(c, d));
     differences::differences(net, work, old, new, d);
     lines::sum_lines(net, work, new, d);
 }
@@ -64,7 +64,7 @@ pub(crate) fn run(order: &[u8], net: &mut [u32], work: &mut [i32])
     let mut t = 0;
     while t < order.len() {
         take_up(order, t, c, net, work);
-        c = shape::one_more(c, order[t]);
+        c = direction::one_more(c, order[t]);
         t += 1;
     }
 }

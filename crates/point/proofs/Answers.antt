@@ -1,76 +1,59 @@
 -- The answer of a point call, case by case, and what it takes to value a placing.
-use mathlib.Core.Path.{_≡_, refl}
-use mathlib.Core.Bool.{Bool, true, false, and-eq-true-iff}
+use mathlib.Core.Bool.{false, true}
 use mathlib.Core.List.{List}
-use Prim.Native.Nat.{ℕ, suc, _≤_, _<_}
+use mathlib.Core.Path.{_≡_, refl}
+use Prim.Native.Nat.{_<_, _≤_, ℕ}
 use native.Mathlib.Omega.{arith}
+use borrow.Author.Tests.{ltb-false}
 use lib.IntN.{ℤ}
 use lib.ListN.{length}
-use borrow.Author.Tests.{leb-true, eq-eqb, ne-eqb}
-use Rattle.sums.specs.Search.{nowhere, at}
 use Rattle.sums.proofs.Coefficient.{factorial-pos}
-use Rattle.spline.specs.Place.{Axis}
+use Rattle.sums.specs.Search.{at, nowhere}
+use Rattle.spline.specs.Box.{places, width}
 use Rattle.spline.specs.Multiplicities.{Multiplicities, degree}
-use Rattle.spline.specs.Box.{width, places}
+use Rattle.spline.specs.Place.{Axis}
+use Rattle.unit.proofs.Checks.{if-passed, then-passed}
+use Rattle.unit.specs.Unit.{netOf}
+use Rattle.unit.specs.declared.Checked.the-variants.{Passed}
 use Rattle.unit.specs.declared.Unit.{Unit}
-use Rattle.unit.specs.Unit.{netOf, hasNet, hasBlock}
-use Rattle.point.specs.declared.PointAnswer.the-variants.{Value}
-use Rattle.point.specs.declared.placing.Placing.{Placing}
-use Rattle.point.specs.Placing.{cells, inside, placing, cell}
-use Rattle.point.specs.Blending.{numerator, uncertainty, addsUp, firstGap}
-use Rattle.point.specs.Answer.{check, refusedPoint, sizes, lentRefusal, scale, limit, placeRefusal, valueAnswer, numberAt, signedAt, correctionAt, uncertaintyAt, pointAnswer}
-use Rattle.point.specs.Window.{frameOf, BlockMeasured}
-use Rattle.point.specs.Valuing.{Swept, Scaled, Fit}
-use Rattle.point.proofs.Sizes.{unit-shaped}
-use Rattle.point.proofs.Order.{weights-add-up, placing-axes}
-use Rattle.point.proofs.Windows.{inside-of, windows-in}
+use Rattle.placing.proofs.Order.{placing-axes, weights-add-up}
+use Rattle.placing.proofs.Placed.{Equipped, Placed, equipped, or-false}
+use Rattle.placing.proofs.Sizes.{unit-shaped}
+use Rattle.placing.specs.Place.{pointChecks, scale, unitChecks}
+use Rattle.placing.specs.Placing.{cell, placing, sizes}
+use Rattle.placing.specs.declared.Placing.{Placing}
 use Rattle.point.proofs.Searches.{measured}
 use Rattle.point.proofs.Values.{corrections-size, uncertainties-size}
+use Rattle.point.proofs.Windows.{inside-of, windows-in}
+use Rattle.point.specs.Answer.{correctionAt, lentChecks, numberAt, pointAnswer, refusedPoint, signedAt, uncertaintyAt, valueAnswer, valueChecks}
+use Rattle.point.specs.Blending.{addsUp, firstGap, numerator, uncertainty}
+use Rattle.point.specs.Valuing.{Fit, Scaled, Swept}
+use Rattle.point.specs.Window.{BlockMeasured, frameOf}
+use Rattle.point.specs.declared.PointAnswer.the-variants.{Value}
 
--- ---- the refusals that come before a placing is valued
-
-check-zero : (t : Bool) (n rest : ℕ) → check t (suc n) rest ≡ 0 → (t ≡ true) × (rest ≡ 0)
-check-zero true n rest h = (refl, h)
-check-zero false n rest h = absurd (omega arith)
+-- ---- the checks that come before a placing is valued
 
 pub record Lent (u : Unit) (net corrections uncertainties : ℕ) : Type 0 where
-  pub net-held : hasNet u ≡ true
-  pub block-held : hasBlock u ≡ true
+  pub unit : Equipped u
   pub net-long : places (width (netOf u)) ≤ net
   pub corrections-long : places (sizes u) ≤ corrections
   pub uncertainties-long : places (sizes u) ≤ uncertainties
 
-pub lent-facts : (u : Unit) (net corrections uncertainties : ℕ) → lentRefusal u net corrections uncertainties ≡ 0 → Lent u net corrections uncertainties
-unfolding lentRefusal
-lent-facts u net corrections uncertainties h =
-    let a = check-zero _ _ _ h in
-    let b = check-zero _ _ _ (a .1) in
-    let c = check-zero _ _ _ (b .1) in
-    let d = check-zero _ _ _ (c .1) in
-    let e = and-eq-true-iff _ _ .0 (d .0) in
-    record { net-held = a .0; block-held = b .0; net-long = leb-true _ _ (c .0); corrections-long = leb-true _ _ (e .0); uncertainties-long = leb-true _ _ (e .1) }
-
-pub record Placed (u : Unit) (x y z D : ℕ) : Type 0 where
-  pub some : 1 ≤ D
-  pub few : D ≤ 4096
-  pub scaled : scale (degree (netOf u)) D ≤ limit
-  pub point-inside : inside (netOf u) (sizes u) (cells x y z D) ≡ true
-
-pub placed-facts : (u : Unit) (x y z D : ℕ) → placeRefusal u x y z D ≡ 0 → Placed u x y z D
-unfolding placeRefusal
-placed-facts u x y z D h =
-    let a = check-zero _ _ _ h in
-    let b = check-zero _ _ _ (a .1) in
-    let c = check-zero _ _ _ (b .1) in
-    let d = and-eq-true-iff _ _ .0 (a .0) in
-    record { some = leb-true _ _ (d .0); few = leb-true _ _ (d .1); scaled = leb-true _ _ (b .0); point-inside = c .0 }
+pub lent : (u : Unit) (net corrections uncertainties : ℕ) → lentChecks u net corrections uncertainties ≡ Passed → Lent u net corrections uncertainties
+unfolding lentChecks
+lent u net corrections uncertainties h =
+    let a = then-passed (unitChecks u) _ h in
+    let b = if-passed 4 _ _ (a .1) in
+    let c = if-passed 9 _ _ (b .1) in
+    let d = or-false _ _ (c .0) in
+    record { unit = equipped u (a .0); net-long = ltb-false _ _ (b .0); corrections-long = ltb-false _ _ (d .0); uncertainties-long = ltb-false _ _ (d .1) }
 
 -- a placing that no check has refused can be valued
 pub fit : (u : Unit) (net corrections uncertainties x y z D : ℕ) → Lent u net corrections uncertainties → Placed u x y z D → Fit u net corrections uncertainties (placing x y z D)
 unfolding placing
 fit u net corrections uncertainties x y z D l p = record {
-  net-held = l .net-held;
-  block-held = l .block-held;
+  net-held = l .unit .net-held;
+  block-held = l .unit .block-held;
   net-long = l .net-long;
   corrections-long = l .corrections-long;
   uncertainties-long = l .uncertainties-long;
@@ -101,35 +84,24 @@ module _ (u : Unit) (q : Placing) (net : List ℕ) (corrections : List ℤ) (unc
 
 module _ (v : Multiplicities) (n : Axis → ℕ) (net : ℕ → ℕ) (corrections : ℕ → ℕ → ℕ → ℤ) (uncertainties : ℕ → ℕ → ℕ → ℕ) (q : Placing) (D : ℕ) where
   pub value-gap : (i : ℕ) → firstGap v n corrections (cell q) ≡ at i → valueAnswer v n net corrections uncertainties q D ≡ refusedPoint 13 i
-  unfolding valueAnswer
+  unfolding valueAnswer valueChecks
   value-gap i e = rw e refl
 
   pub value-uneven : firstGap v n corrections (cell q) ≡ nowhere → addsUp v net q ≡ false → valueAnswer v n net corrections uncertainties q D ≡ refusedPoint 23 0
-  unfolding valueAnswer
+  unfolding valueAnswer valueChecks
   value-uneven e a = rw (e, a) refl
 
   pub value-is : firstGap v n corrections (cell q) ≡ nowhere → addsUp v net q ≡ true
       → valueAnswer v n net corrections uncertainties q D
       ≡ Value (record { numerator = numerator v net corrections q; uncertainty = uncertainty v net uncertainties q; denominator = scale (degree v) D })
-  unfolding valueAnswer
+  unfolding valueAnswer valueChecks
   value-is e a = rw (e, a) refl
 
 -- ---- the whole call
 
-module _ (u : Unit) (net : List ℕ) (corrections : List ℤ) (uncertainties : List ℕ) (x y z D : ℕ) where
-  abbrev lent : ℕ
-  lent = lentRefusal u (length net) (length corrections) (length uncertainties)
-
-  pub point-unlent : (lent ≡ 0 → ⊥) → pointAnswer u net corrections uncertainties x y z D ≡ refusedPoint lent 0
-  unfolding pointAnswer
-  point-unlent h = rw (ne-eqb lent 0 h) refl
-
-  pub point-unplaced : lent ≡ 0 → (placeRefusal u x y z D ≡ 0 → ⊥) → pointAnswer u net corrections uncertainties x y z D ≡ refusedPoint (placeRefusal u x y z D) 0
-  unfolding pointAnswer
-  point-unplaced e h = rw (eq-eqb lent 0 e, ne-eqb (placeRefusal u x y z D) 0 h) refl
-
-  pub point-valued : lent ≡ 0 → placeRefusal u x y z D ≡ 0
-      → pointAnswer u net corrections uncertainties x y z D
-      ≡ valueAnswer (netOf u) (sizes u) (numberAt net) (correctionAt (sizes u) corrections) (uncertaintyAt (sizes u) uncertainties) (placing x y z D) D
-  unfolding pointAnswer
-  point-valued e h = rw (eq-eqb lent 0 e, eq-eqb (placeRefusal u x y z D) 0 h) refl
+pub point-valued : (u : Unit) (net : List ℕ) (corrections : List ℤ) (uncertainties : List ℕ) (x y z D : ℕ)
+    → lentChecks u (length net) (length corrections) (length uncertainties) ≡ Passed → pointChecks u x y z D ≡ Passed
+    → pointAnswer u net corrections uncertainties x y z D
+    ≡ valueAnswer (netOf u) (sizes u) (numberAt net) (correctionAt (sizes u) corrections) (uncertaintyAt (sizes u) uncertainties) (placing x y z D) D
+unfolding pointAnswer
+point-valued u net corrections uncertainties x y z D e h = rw (e, h) refl

@@ -1,15 +1,15 @@
 -- The nested search through the window finds the gap with the lowest index.
-use mathlib.Core.Path.{_≡_, refl, sym, _∙_}
-use mathlib.Core.Bool.{Bool, true, false, cond}
+use mathlib.Core.Bool.{Bool, cond, false, true}
 use mathlib.Core.Logic.{_⊎_, inl, inr, ⊎-elim}
-use Prim.Native.Nat.{ℕ, zero, suc, _+_, _*_, _≤_, _<_}
-use native.Mathlib.Nat.{mul-le-mul-left, le-suc-iff, eq-or-lt-of-le, le-refl}
+use mathlib.Core.Path.{_∙_, _≡_, refl, sym}
+use Prim.Native.Nat.{_*_, _+_, _<_, _≤_, suc, zero, ℕ}
+use native.Mathlib.Nat.{eq-or-lt-of-le, le-refl, le-suc-iff, mul-le-mul-left}
 use native.Mathlib.Omega.{arith}
+use borrow.Author.Tests.{leb-false, leb-true}
 use lib.Dec.{leb}
-use borrow.Author.Tests.{leb-true, leb-false}
-use Rattle.sums.specs.Search.{Found, nowhere, at, orElse, first}
-use Rattle.sums.proofs.Search.{nowhere-at, nowhere-first, first-hit}
 use Rattle.sums.proofs.Places.{index-in}
+use Rattle.sums.proofs.Search.{first-hit, nowhere-at, nowhere-first}
+use Rattle.sums.specs.Search.{Found, at, first, nowhere, orElse}
 use Rattle.point.specs.Window.{firstOf}
 
 -- ---- what a search says of its steps

@@ -1,14 +1,14 @@
 -- The search for a gap as nested loops make it.
-use mathlib.Core.Path.{_≡_, refl, sym, _∙_}
 use mathlib.Core.Logic.{⊎-elim}
-use Prim.Native.Nat.{ℕ, zero, suc, _+_, _≤_, _<_}
+use mathlib.Core.Path.{_∙_, _≡_, refl, sym}
+use Prim.Native.Nat.{_+_, _<_, _≤_, suc, zero, ℕ}
 use native.Mathlib.Nat.{le-suc-iff}
 use native.Mathlib.Numerals.{add-one}
 use native.Mathlib.Omega.{arith}
-use Rattle.sums.specs.Search.{Found, nowhere, at}
-use Rattle.point.specs.declared.window.Gap.the-variants.{At, Nowhere}
 use Rattle.sums.proofs.Search.{nowhere-at}
-use Rattle.point.specs.Window.{firstOf, gapOf, Searched}
+use Rattle.sums.specs.Search.{Found, at, nowhere}
+use Rattle.point.specs.Window.{Searched, firstOf, gapOf}
+use Rattle.point.specs.declared.window.Gap.the-variants.{At, Nowhere}
 
 module _ (f : ℕ → Found) where
   pub first-of-none : firstOf 0 f ≡ nowhere

@@ -1,6 +1,3 @@
-pub mod Sizes
-pub mod Order
-pub mod Scale
 pub mod Machine
 pub mod Sweep
 pub mod Gaps

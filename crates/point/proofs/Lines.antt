@@ -1,18 +1,18 @@
 -- The lines and sheets of the Bernstein sums fit, where the weights do and the shares add up.
-use mathlib.Core.Path.{_≡_}
 use mathlib.Core.List.{List}
-use Prim.Native.Nat.{ℕ, suc, _*_, _^_, _≤_, _<_}
+use mathlib.Core.Path.{_≡_}
+use Prim.Native.Nat.{_*_, _<_, _^_, _≤_, suc, ℕ}
 use native.Mathlib.Nat.{mul-le-mul-left, mul-le-mul-right}
 use native.Mathlib.Omega.{arith}
-use lib.IntN.{ℤ, natAbs}
 use borrow.Author.Tests.{eqb-true}
+use lib.IntN.{natAbs, ℤ}
 use Rattle.sums.proofs.Sum.{sum-term}
-use Rattle.point.specs.declared.shape.Frame.{Frame}
-use Rattle.point.specs.declared.window.Sums.{Sums}
-use Rattle.point.specs.Answer.{limit}
-use Rattle.point.specs.Portion.{Portion, term, factor, sumsAt, linePortion, sheetPortion}
-use Rattle.point.specs.Valuing.{lineWeight, sheetWeight, LineFits, listSums, Swept}
+use Rattle.placing.specs.Place.{limit}
 use Rattle.point.proofs.Portions.{Sized, portions-sized, weighed-bounded}
+use Rattle.point.specs.Portion.{Portion, factor, linePortion, sheetPortion, sumsAt, term}
+use Rattle.point.specs.Valuing.{LineFits, Swept, lineWeight, listSums, sheetWeight}
+use Rattle.point.specs.declared.frame.Frame.{Frame}
+use Rattle.point.specs.declared.window.Sums.{Sums}
 
 -- the terms of a line, the lines of a sheet and the sheets of the whole
 abbrev pub terms : Frame → (ℕ → Sums) → (ℕ → ℕ) → (ℕ → ℕ) → ℕ → ℕ → ℕ → ℕ → Portion

@@ -1,14 +1,14 @@
 -- The local places of a placing: within the degree, and their indices in the net.
+use mathlib.Core.Bool.{Bool, cond, false, true}
 use mathlib.Core.Path.{_≡_}
-use mathlib.Core.Bool.{Bool, true, false, cond}
-use Prim.Native.Nat.{ℕ, _+_, _*_, _-_, _≤_}
+use Prim.Native.Nat.{_*_, _+_, _-_, _≤_, ℕ}
 use native.Mathlib.Omega.{arith}
 use lib.Dec.{eqb}
 use Rattle.spline.specs.Place.{Axis, a1, a2, a3}
-use Rattle.point.specs.declared.placing.Placing.{Placing}
-use Rattle.point.specs.Placing.{axisNumber, localPlace}
+use Rattle.placing.specs.Placing.{Axes, axisNumber, o123, o132, o213, o231, o312, o321}
+use Rattle.placing.specs.declared.Placing.{Placing}
+use Rattle.point.specs.Blending.{localPlace}
 use Rattle.point.specs.Window.{stepOn}
-use Rattle.point.specs.Valuing.{Axes, o123, o132, o213, o231, o312, o321}
 
 cond-le : (t : Bool) (x y m : ℕ) → x ≤ m → y ≤ m → cond t x y ≤ m
 cond-le true x y m h k = h

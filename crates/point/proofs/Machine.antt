@@ -1,17 +1,17 @@
 -- Sums of two signed numbers of 64 bits by their sizes, and a correction by its bits.
-use mathlib.Core.Path.{_≡_, refl}
-use mathlib.Core.Bool.{Bool, true, false}
+use mathlib.Core.Bool.{Bool, false, true}
 use mathlib.Core.Logic.{_≢_}
-use Prim.Native.Nat.{ℕ, suc, _+_, _-_, _^_, _≤_, _<_}
+use mathlib.Core.Path.{_≡_, refl}
+use Prim.Native.Nat.{_+_, _-_, _<_, _^_, _≤_, suc, ℕ}
 use native.Mathlib.Omega.{arith}
+use borrow.Author.Tests.{eq-eqb, eqb-false, eqb-true, ne-eqb}
 use lib.Dec.{eqb}
-use lib.IntN.{ℤ, pos, negsuc, _+ℤ_, natAbs}
-use borrow.Author.Tests.{eq-eqb, ne-eqb, eqb-true, eqb-false}
-use mir.Syntax.{w16, w64}
-use mir.Val.{SFits, toZ, ofZ}
+use lib.IntN.{_+ℤ_, natAbs, negsuc, pos, ℤ}
 use mir.Facts.{toZ-ofZ}
-use Rattle.sums.proofs.Signed.{abs-add}
+use mir.Syntax.{w16, w64}
+use mir.Val.{SFits, ofZ, toZ}
 use Rattle.sums.proofs.Accumulator.{fits}
+use Rattle.sums.proofs.Signed.{abs-add}
 use Rattle.point.specs.Blending.{isGap}
 
 module _ (a b : ℤ) (h : natAbs a + natAbs b < 2 ^ 63) where

@@ -1,19 +1,19 @@
 -- Portions of the Bernstein sums: as a loop makes them, and their sizes.
-use mathlib.Core.Path.{_≡_, refl, ap}
-use mathlib.Core.Bool.{Bool, true, false}
-use Prim.Native.Nat.{ℕ, suc, _+_, _*_, _≤_, _<_}
+use mathlib.Core.Bool.{Bool, false, true}
+use mathlib.Core.Path.{_≡_, ap, refl}
+use Prim.Native.Nat.{_*_, _+_, _<_, _≤_, suc, ℕ}
 use native.Mathlib.Nat.{le-trans, mul-le-mul-left, mul-le-mul-right}
 use native.Mathlib.Omega.{arith}
-use lib.IntN.{pos, natAbs}
-use Rattle.sums.specs.Sum.{sumTo}
-use Rattle.sums.proofs.Sum.{sum-zero, sum-suc, sum-next, sum-cong, sum-mul, sum-le, sum-part}
-use Rattle.sums.proofs.SumZ.{sumZ-zero, sumZ-next, sumZ-cong, sumZ-weighed}
-use Rattle.sums.proofs.Search.{all-none, all-next, all-at, all-off, all-cong}
+use lib.IntN.{natAbs, pos}
+use Rattle.sums.proofs.Search.{all-at, all-cong, all-next, all-none, all-off}
 use Rattle.sums.proofs.Signed.{abs-mul}
-use Rattle.point.specs.declared.window.Sums.{Sums}
-use Rattle.point.specs.declared.bernstein.Part.{Part}
+use Rattle.sums.proofs.Sum.{sum-cong, sum-le, sum-mul, sum-next, sum-part, sum-suc, sum-zero}
+use Rattle.sums.proofs.SumZ.{sumZ-cong, sumZ-next, sumZ-weighed, sumZ-zero}
+use Rattle.sums.specs.Sum.{sumTo}
+use Rattle.point.specs.Portion.{Portion, addParts, blended, blendedIf, part, portions, weighed}
 use Rattle.point.specs.declared.bernstein.Blended.the-variants.{Even, Uneven}
-use Rattle.point.specs.Portion.{part, addParts, Portion, portions, blendedIf, blended, weighed}
+use Rattle.point.specs.declared.bernstein.Part.{Part}
+use Rattle.point.specs.declared.window.Sums.{Sums}
 
 -- ---- a loop over portions
 

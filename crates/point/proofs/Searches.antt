@@ -1,25 +1,24 @@
 -- The search of the window is the definition's search of the block.
-use mathlib.Core.Path.{_≡_, refl, sym, _∙_}
-use mathlib.Core.Bool.{Bool, true, false, _&&_, and-eq-true-iff}
-use Prim.Native.Nat.{ℕ, _+_, _*_, _-_, _/_, _%_, _≤_, _<_}
+use mathlib.Core.Bool.{Bool, _&&_, and-eq-true-iff, false, true}
+use mathlib.Core.Path.{_∙_, _≡_, refl, sym}
+use Prim.Native.Nat.{_%_, _*_, _+_, _-_, _/_, _<_, _≤_, ℕ}
 use native.Mathlib.Nat.{add-zero}
 use native.Mathlib.Omega.{arith}
+use borrow.Author.Tests.{le-leb, leb-true}
 use lib.Dec.{leb}
-use lib.IntN.{ℤ, natAbs}
-use borrow.Author.Tests.{leb-true, le-leb}
-use Rattle.sums.proofs.Places.{place-x, place-y, place-z, index-back}
-use Rattle.spline.specs.Place.{a1, a2, a3}
-use Rattle.spline.specs.Multiplicities.{extent}
+use lib.IntN.{natAbs, ℤ}
+use Rattle.sums.proofs.Places.{index-back, place-x, place-y, place-z}
 use Rattle.spline.specs.Box.{index}
-use Rattle.unit.specs.declared.Unit.{Unit}
+use Rattle.spline.specs.Multiplicities.{extent}
+use Rattle.spline.specs.Place.{a1, a2, a3}
 use Rattle.unit.specs.Unit.{netOf}
-use Rattle.point.specs.declared.placing.Placing.{Placing}
-use Rattle.point.specs.Placing.{cell}
-use Rattle.point.specs.Blending.{isGap, inWindowOn, windowGap, firstGap}
-use Rattle.point.specs.Answer.{sizes}
-use Rattle.point.specs.Window.{frameOf, rowGap, planeGap, blockGap, BlockMeasured}
-use Rattle.point.proofs.Windows.{Inside, entry-index}
+use Rattle.unit.specs.declared.Unit.{Unit}
+use Rattle.placing.specs.Placing.{cell, sizes}
+use Rattle.placing.specs.declared.Placing.{Placing}
 use Rattle.point.proofs.FirstGap.{nested-first}
+use Rattle.point.proofs.Windows.{Inside, entry-index}
+use Rattle.point.specs.Blending.{firstGap, inWindowOn, isGap, windowGap}
+use Rattle.point.specs.Window.{BlockMeasured, blockGap, frameOf, planeGap, rowGap}
 
 in-window : (E k j : ℕ) → inWindowOn E k j ≡ true → (k + 1 - E ≤ j) × (j ≤ k)
 in-window E k j h = let s = and-eq-true-iff (leb (k + 1 - E) j) (leb j k) .0 h in (leb-true _ _ (s .0), leb-true _ _ (s .1))

@@ -1,17 +1,17 @@
 -- Sums over the window as a loop makes them, and their sizes.
 use mathlib.Core.Path.{_≡_, refl}
-use Prim.Native.Nat.{ℕ, _+_, _*_, _^_, _≤_, _<_}
+use Prim.Native.Nat.{_*_, _+_, _<_, _^_, _≤_, ℕ}
 use native.Mathlib.Nat.{mul-le-mul}
 use native.Mathlib.Omega.{arith}
-use lib.IntN.{ℤ, pos, natAbs}
+use lib.IntN.{natAbs, pos, ℤ}
 use mir.Syntax.{w16}
 use mir.Val.{SFits}
-use Rattle.sums.proofs.Sum.{sum-zero, sum-next}
-use Rattle.sums.proofs.SumZ.{sumZ-zero, sumZ-next}
-use Rattle.sums.proofs.Signed.{abs-add, abs-mul}
 use Rattle.sums.proofs.Accumulator.{fits-size}
+use Rattle.sums.proofs.Signed.{abs-add, abs-mul}
+use Rattle.sums.proofs.Sum.{sum-next, sum-zero}
+use Rattle.sums.proofs.SumZ.{sumZ-next, sumZ-zero}
+use Rattle.point.specs.Window.{Small, addSums, entrySums, sums, sumsTo}
 use Rattle.point.specs.declared.window.Sums.{Sums}
-use Rattle.point.specs.Window.{sums, entrySums, addSums, sumsTo, Small}
 
 -- no turn, and one turn more
 pub sums-none : (f : ℕ → Sums) → sums 0 (pos 0) 0 ≡ sumsTo 0 f

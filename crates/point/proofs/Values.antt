@@ -1,33 +1,31 @@
 -- What the sweeps and the portions come to, by the definitions.
-use mathlib.Core.Path.{_≡_, sym, _∙_, ap, ap₂}
 use mathlib.Core.Bool.{Bool}
-use Prim.Native.Nat.{ℕ, suc, _+_, _*_, _-_, _^_, _≤_, _<_}
+use mathlib.Core.Path.{_∙_, _≡_, ap, ap₂, sym}
+use Prim.Native.Nat.{_*_, _+_, _-_, _<_, _^_, _≤_, suc, ℕ}
 use native.Mathlib.Nat.{le-trans, mul-le-mul-left}
 use native.Mathlib.Omega.{arith}
 use lib.Dec.{eqb}
-use lib.IntN.{ℤ, pos, _*ℤ_, natAbs}
-use Rattle.sums.specs.Sum.{sumBox, sumBoxZ}
-use Rattle.sums.specs.Simplex.{sumSimplex, sumSimplexZ, bernstein}
-use Rattle.sums.proofs.Sum.{sum-cong, sumBox-le, sumBox-mul}
-use Rattle.sums.proofs.SumZ.{sumZ-cong, blend-abs}
-use Rattle.sums.proofs.Search.{all-cong}
+use lib.IntN.{_*ℤ_, natAbs, pos, ℤ}
 use Rattle.sums.proofs.Coefficient.{multinomial-binomial}
-use Rattle.spline.specs.Place.{Axis, a1, a2, a3}
+use Rattle.sums.proofs.Search.{all-cong}
+use Rattle.sums.proofs.Sum.{sum-cong, sumBox-le, sumBox-mul}
+use Rattle.sums.proofs.SumZ.{blend-abs, sumZ-cong}
+use Rattle.sums.specs.Simplex.{bernstein, sumSimplex, sumSimplexZ}
+use Rattle.sums.specs.Sum.{sumBox, sumBoxZ}
+use Rattle.spline.specs.Box.{index, width}
 use Rattle.spline.specs.Multiplicities.{Multiplicities}
-use Rattle.spline.specs.Box.{width, index}
-use Rattle.unit.specs.declared.Unit.{Unit}
+use Rattle.spline.specs.Place.{Axis, a1, a2, a3}
 use Rattle.unit.specs.Unit.{netOf}
-use Rattle.point.specs.declared.placing.Placing.{Placing}
-use Rattle.point.specs.declared.shape.Frame.{Frame}
-use Rattle.point.specs.declared.window.Sums.{Sums}
-use Rattle.point.specs.Placing.{cell, localPlace}
-use Rattle.point.specs.Blending.{share, shareSum, blendedCorrection, blendedUncertainty, numerator, uncertainty, allSimplex, addsUp}
-use Rattle.point.specs.Answer.{sizes}
-use Rattle.point.specs.Window.{frameOf, sumsTo, rowSums, planeSums, windowSums}
-use Rattle.point.specs.Portion.{part, Portion, portion, portions, blendedIf, blended, factor, sumsAt, linePortion, sheetPortion, wholePortion}
-use Rattle.point.specs.Valuing.{Axes}
-use Rattle.point.proofs.Windows.{Inside, place-sum, entry-index}
+use Rattle.unit.specs.declared.Unit.{Unit}
+use Rattle.placing.specs.Placing.{Axes, cell, sizes}
+use Rattle.placing.specs.declared.Placing.{Placing}
 use Rattle.point.proofs.LocalPlaces.{local-index, sums-of}
+use Rattle.point.proofs.Windows.{Inside, entry-index, place-sum}
+use Rattle.point.specs.Blending.{addsUp, allSimplex, blendedCorrection, blendedUncertainty, localPlace, numerator, share, shareSum, uncertainty}
+use Rattle.point.specs.Portion.{Portion, blended, blendedIf, factor, linePortion, part, portion, portions, sheetPortion, sumsAt, wholePortion}
+use Rattle.point.specs.Window.{frameOf, planeSums, rowSums, sumsTo, windowSums}
+use Rattle.point.specs.declared.frame.Frame.{Frame}
+use Rattle.point.specs.declared.window.Sums.{Sums}
 
 module _ (u : Unit) (q : Placing) (net : ℕ → ℕ) (corrections : ℕ → ℤ) (uncertainties : ℕ → ℕ) (inside : Inside u q) where
   abbrev v : Multiplicities

@@ -1,23 +1,23 @@
 -- The weights of the Bernstein sums are within 2^48, and so are the steps to them.
-use mathlib.Core.Path.{_≡_, refl, _∙_, ap}
-use Prim.Native.Nat.{ℕ, suc, _+_, _*_, _-_, _^_, _≤_}
-use native.Mathlib.Nat.{le-refl, le-trans, mul-le-mul, mul-le-mul-left, mul-le-mul-right, pow-le-pow-left, one-le-pow}
+use mathlib.Core.Path.{_∙_, _≡_, ap, refl}
+use Prim.Native.Nat.{_*_, _+_, _-_, _^_, _≤_, suc, ℕ}
+use native.Mathlib.Nat.{le-refl, le-trans, mul-le-mul, mul-le-mul-left, mul-le-mul-right, one-le-pow, pow-le-pow-left}
 use native.Mathlib.Omega.{arith}
 use lib.Pow.{pow-add}
-use Rattle.sums.specs.Sum.{sumTo}
-use Rattle.sums.specs.Coefficient.{factorial, binomial}
-use Rattle.sums.proofs.Sum.{sum-cong, sum-mul, sum-term}
-use Rattle.sums.proofs.Coefficient.{factorial-pos, binomial-factorial}
+use Rattle.sums.proofs.Coefficient.{binomial-factorial, factorial-pos}
 use Rattle.sums.proofs.Multinomial.{binomial-theorem}
-use Rattle.point.specs.declared.placing.Placing.{Placing}
-use Rattle.point.specs.Placing.{weightSum}
-use Rattle.point.specs.Answer.{scale, limit}
-use Rattle.point.specs.declared.shape.Frame.{Frame}
-use Rattle.point.specs.declared.window.Sums.{Sums}
-use Rattle.point.specs.Portion.{factor, term, sumsAt, linePortion, sheetPortion, wholePortion}
-use Rattle.point.specs.Valuing.{lineWeight, sheetWeight, wholeWeight, FactorsFit, LineFits, SheetFits, WholeFits, Scaled}
-use Rattle.point.proofs.Scale.{scale-le}
+use Rattle.sums.proofs.Sum.{sum-cong, sum-mul, sum-term}
+use Rattle.sums.specs.Coefficient.{binomial, factorial}
+use Rattle.sums.specs.Sum.{sumTo}
+use Rattle.placing.proofs.Scale.{scale-le}
+use Rattle.placing.specs.Place.{limit, scale}
+use Rattle.placing.specs.Placing.{weightSum}
+use Rattle.placing.specs.declared.Placing.{Placing}
 use Rattle.point.proofs.Portions.{portions-cong}
+use Rattle.point.specs.Portion.{factor, linePortion, sheetPortion, sumsAt, term, wholePortion}
+use Rattle.point.specs.Valuing.{FactorsFit, LineFits, Scaled, SheetFits, WholeFits, lineWeight, sheetWeight, wholeWeight}
+use Rattle.point.specs.declared.frame.Frame.{Frame}
+use Rattle.point.specs.declared.window.Sums.{Sums}
 
 -- x is the powers of l, as far as the n-th
 abbrev pub Powers : ℕ → ℕ → (ℕ → ℕ) → Type 0

@@ -1,25 +1,25 @@
 -- The window of a point that is inside lies within the block and, at every local place, within the net.
+use mathlib.Core.Bool.{_&&_, and-eq-true-iff, true}
 use mathlib.Core.Path.{_≡_, subst}
-use mathlib.Core.Bool.{true, _&&_, and-eq-true-iff}
-use Prim.Native.Nat.{ℕ, _+_, _*_, _-_, _≤_, _<_}
-use native.Mathlib.Nat.{mul-le-mul, mul-le-mul-left, lt-of-lt-of-le}
+use Prim.Native.Nat.{_*_, _+_, _-_, _<_, _≤_, ℕ}
+use native.Mathlib.Nat.{lt-of-lt-of-le, mul-le-mul, mul-le-mul-left}
 use native.Mathlib.Omega.{arith}
-use lib.Dec.{leb}
 use borrow.Author.Tests.{leb-true}
+use lib.Dec.{leb}
 use Rattle.sums.proofs.Places.{index-in}
-use Rattle.spline.specs.Place.{Axis, a1, a2, a3}
+use Rattle.spline.specs.Box.{index, places, width}
 use Rattle.spline.specs.Multiplicities.{Multiplicities, degree, extent}
-use Rattle.spline.specs.Box.{width, places, index}
-use Rattle.unit.specs.declared.Unit.{Unit}
-use Rattle.unit.specs.Unit.{netOf}
+use Rattle.spline.specs.Place.{Axis, a1, a2, a3}
 use Rattle.unit.proofs.Limits.{BlockLimits, block-limits}
-use Rattle.point.specs.declared.placing.Placing.{Placing}
-use Rattle.point.specs.Placing.{insideOn, inside, cell, localPlace}
-use Rattle.point.specs.Answer.{sizes}
-use Rattle.point.specs.Window.{frameOf, Limits, InWindow, GapsIn}
+use Rattle.unit.specs.Unit.{netOf}
+use Rattle.unit.specs.declared.Unit.{Unit}
+use Rattle.placing.proofs.Sizes.{unit-shaped}
+use Rattle.placing.specs.Placing.{cell, inside, insideOn, sizes}
+use Rattle.placing.specs.declared.Placing.{Placing}
+use Rattle.point.proofs.LocalPlaces.{local-index, local-le, sums-of}
+use Rattle.point.specs.Blending.{localPlace}
 use Rattle.point.specs.Valuing.{Fit}
-use Rattle.point.proofs.Sizes.{unit-shaped}
-use Rattle.point.proofs.LocalPlaces.{local-le, local-index, sums-of}
+use Rattle.point.specs.Window.{GapsIn, InWindow, Limits, frameOf}
 
 -- E ≤ k + 1 ≤ n on an axis, and on all
 inside-on : (E n k : ℕ) → 1 ≤ n → insideOn E n k ≡ true → (E ≤ k + 1) × (k < n)

@@ -1,18 +1,22 @@
 -- Shares, blended numbers and the Bernstein sums. The net is the number at an index, the block the entry at
 -- (j1, j2, j3).
-use mathlib.Core.Bool.{Bool, false, _&&_}
-use Prim.Native.Nat.{ℕ, suc, _+_, _*_, _-_, _/_, _%_}
-use lib.Dec.{leb, eqb}
-use lib.IntN.{ℤ, pos, negsuc, _*ℤ_}
-use Rattle.sums.specs.Sum.{sumBox, sumBoxZ}
+use mathlib.Core.Bool.{Bool, _&&_, cond, false}
+use Prim.Native.Nat.{_%_, _*_, _+_, _-_, _/_, suc, ℕ}
+use lib.Dec.{eqb, leb}
+use lib.IntN.{_*ℤ_, negsuc, pos, ℤ}
 use Rattle.sums.specs.Coefficient.{factorial}
-use Rattle.sums.specs.Simplex.{sumSimplex, sumSimplexZ, bernstein}
-use Rattle.sums.specs.Search.{allTo, Found, first}
-use Rattle.spline.specs.Place.{Axis, a1, a2, a3}
+use Rattle.sums.specs.Search.{Found, allTo, first}
+use Rattle.sums.specs.Simplex.{bernstein, sumSimplex, sumSimplexZ}
+use Rattle.sums.specs.Sum.{sumBox, sumBoxZ}
+use Rattle.spline.specs.Box.{index, places, width}
 use Rattle.spline.specs.Multiplicities.{Multiplicities, degree, extent}
-use Rattle.spline.specs.Box.{width, places, index}
-use Rattle.point.specs.declared.placing.Placing.{Placing}
-use Rattle.point.specs.Placing.{cell, localPlace}
+use Rattle.spline.specs.Place.{Axis, a1, a2, a3}
+use Rattle.placing.specs.Placing.{axisNumber, cell}
+use Rattle.placing.specs.declared.Placing.{Placing}
+
+-- "the local place is b1+b2+b3 on p, b2+b3 on r, b3 on s"
+unfoldable pub localPlace : Placing → ℕ → ℕ → ℕ → Axis → ℕ
+localPlace q b1 b2 b3 b = cond (eqb (axisNumber b) (q .p)) (b1 + b2 + b3) (cond (eqb (axisNumber b) (q .r)) (b2 + b3) b3)
 
 -- "The window is every block entry j with k−Eb+1 ≤ j ≤ k on every axis." Sums over the window go through
 -- j = k − i, with i below the extent on every axis.

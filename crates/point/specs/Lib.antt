@@ -1,4 +1,3 @@
-pub mod Placing
 pub mod Blending
 pub mod Answer
 pub mod Window

@@ -1,16 +1,16 @@
 -- What the functions that make the Bernstein sums promise: portions of the sums, from the innermost out.
-use mathlib.Core.Bool.{Bool, true, false}
-use Prim.Native.Nat.{ℕ, suc, _+_, _*_, _-_}
+use mathlib.Core.Bool.{Bool, false, true}
+use Prim.Native.Nat.{_*_, _+_, _-_, suc, ℕ}
 use lib.Dec.{eqb}
-use lib.IntN.{ℤ, pos, _+ℤ_, _*ℤ_}
-use Rattle.sums.specs.Sum.{sumTo, sumZ}
+use lib.IntN.{_*ℤ_, _+ℤ_, pos, ℤ}
 use Rattle.sums.specs.Coefficient.{binomial}
 use Rattle.sums.specs.Search.{allTo}
-use Rattle.point.specs.declared.shape.Frame.{Frame}
-use Rattle.point.specs.declared.window.Sums.{Sums}
-use Rattle.point.specs.declared.bernstein.Part.{Part}
+use Rattle.sums.specs.Sum.{sumTo, sumZ}
 use Rattle.point.specs.declared.bernstein.Blended.{Blended}
 use Rattle.point.specs.declared.bernstein.Blended.the-variants.{Even, Uneven}
+use Rattle.point.specs.declared.bernstein.Part.{Part}
+use Rattle.point.specs.declared.frame.Frame.{Frame}
+use Rattle.point.specs.declared.window.Sums.{Sums}
 
 abbrev pub part : ℤ → ℕ → Part
 part n u = record { numerator = n; uncertainty = u }

@@ -1,23 +1,24 @@
 -- What the functions that make the Bernstein sums ask of their callers.
-use mathlib.Core.Path.{_≡_}
 use mathlib.Core.Bool.{true}
 use mathlib.Core.List.{List}
-use Prim.Native.Nat.{ℕ, suc, _+_, _*_, _≤_}
+use mathlib.Core.Path.{_≡_}
+use Prim.Native.Nat.{_*_, _+_, _≤_, suc, ℕ}
+use lib.IntN.{natAbs, ℤ}
 use lib.ListN.{length}
-use lib.IntN.{ℤ, natAbs}
-use Rattle.sums.specs.Sum.{sumTo}
 use Rattle.sums.specs.Coefficient.{factorial}
-use Rattle.spline.specs.Multiplicities.{degree}
+use Rattle.sums.specs.Sum.{sumTo}
 use Rattle.spline.specs.Box.{places, width}
+use Rattle.spline.specs.Multiplicities.{degree}
+use Rattle.unit.specs.Unit.{hasBlock, hasNet, netOf}
 use Rattle.unit.specs.declared.Unit.{Unit}
-use Rattle.unit.specs.Unit.{netOf, hasNet, hasBlock}
-use Rattle.point.specs.declared.placing.Placing.{Placing}
-use Rattle.point.specs.declared.shape.Frame.{Frame}
-use Rattle.point.specs.declared.window.Sums.{Sums}
-use Rattle.point.specs.Placing.{inside, cell, weightSum}
-use Rattle.point.specs.Answer.{numberAt, signedAt, sizes, scale, limit}
-use Rattle.point.specs.Window.{windowSums, InWindow}
+use Rattle.placing.specs.Place.{limit, scale}
+use Rattle.placing.specs.Placing.{Axes, cell, inside, sizes, weightSum}
+use Rattle.placing.specs.declared.Placing.{Placing}
+use Rattle.point.specs.Answer.{numberAt, signedAt}
 use Rattle.point.specs.Portion.{factor}
+use Rattle.point.specs.Window.{InWindow, windowSums}
+use Rattle.point.specs.declared.frame.Frame.{Frame}
+use Rattle.point.specs.declared.window.Sums.{Sums}
 
 -- ---- weights that fit, and so do the steps to them
 
@@ -71,15 +72,6 @@ pub record Scaled (f : Frame) (q : Placing) : Type 0 where
   pub scaled : scale (f .m) (weightSum q) ≤ limit
 
 -- ---- what the checks of a point call have settled when a placing is valued
-
--- the numbers of the three axes, in some order
-pub data Axes : ℕ → ℕ → ℕ → Type 0 where
-  o123 : Axes 1 2 3
-  o132 : Axes 1 3 2
-  o213 : Axes 2 1 3
-  o231 : Axes 2 3 1
-  o312 : Axes 3 1 2
-  o321 : Axes 3 2 1
 
 pub record Fit (u : Unit) (net corrections uncertainties : ℕ) (q : Placing) : Type 0 where
   pub net-held : hasNet u ≡ true

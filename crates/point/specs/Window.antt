@@ -1,24 +1,24 @@
 -- What the functions that go through the window promise: sums over it and the search for a gap, by steps through
 -- the lent slices, each of which is read as the number at an index.
-use mathlib.Core.Path.{_≡_}
 use mathlib.Core.Bool.{cond}
-use Prim.Native.Nat.{ℕ, zero, suc, _+_, _*_, _-_, _≤_, _<_}
+use mathlib.Core.Path.{_≡_}
+use Prim.Native.Nat.{_*_, _+_, _-_, _<_, _≤_, suc, zero, ℕ}
 use lib.Dec.{eqb}
-use lib.IntN.{ℤ, pos, _+ℤ_, _*ℤ_, natAbs}
-use Rattle.sums.specs.Sum.{sumTo, sumZ}
-use Rattle.sums.specs.Search.{Found, nowhere, at, orElse}
+use lib.IntN.{_*ℤ_, _+ℤ_, natAbs, pos, ℤ}
 use Rattle.sums.specs.Coefficient.{factorial}
-use Rattle.spline.specs.Place.{a1, a2, a3}
-use Rattle.spline.specs.Multiplicities.{degree, extent}
+use Rattle.sums.specs.Search.{Found, at, nowhere, orElse}
+use Rattle.sums.specs.Sum.{sumTo, sumZ}
 use Rattle.spline.specs.Box.{width}
-use Rattle.unit.specs.declared.Unit.{Unit}
+use Rattle.spline.specs.Multiplicities.{degree, extent}
+use Rattle.spline.specs.Place.{a1, a2, a3}
 use Rattle.unit.specs.Unit.{netOf}
-use Rattle.point.specs.declared.placing.Placing.{Placing}
-use Rattle.point.specs.declared.shape.Frame.{Frame}
-use Rattle.point.specs.declared.window.Sums.{Sums}
+use Rattle.unit.specs.declared.Unit.{Unit}
+use Rattle.placing.specs.declared.Placing.{Placing}
+use Rattle.point.specs.Blending.{isGap}
+use Rattle.point.specs.declared.frame.Frame.{Frame}
 use Rattle.point.specs.declared.window.Gap.{Gap}
 use Rattle.point.specs.declared.window.Gap.the-variants.{At, Nowhere}
-use Rattle.point.specs.Blending.{isGap}
+use Rattle.point.specs.declared.window.Sums.{Sums}
 
 -- ---- what a sweep goes by
 

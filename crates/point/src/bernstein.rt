@@ -4,15 +4,16 @@ ghost use Prim.Native.Nat.{ℕ, _+_, _*_, _-_, _^_, _≤_, _<_};
 ghost use lib.ListN.{getD};
 ghost use lib.IntN.{natAbs};
 ghost use Rattle.sums.specs.Coefficient.{binomial};
-ghost use Rattle.point.specs.Placing.{weightSum};
-ghost use Rattle.point.specs.Answer.{numberAt, scale, limit};
+ghost use Rattle.placing.specs.Placing.{weightSum};
+ghost use Rattle.placing.specs.Place.{scale, limit};
+ghost use Rattle.point.specs.Answer.{numberAt};
 ghost use Rattle.point.specs.Window.{Small};
 ghost use Rattle.point.specs.Portion.{addParts, weighed, factor, blended, linePortion, sheetPortion, wholePortion};
 ghost use Rattle.point.specs.Valuing.{LineFits, SheetFits, WholeFits, listSums, Swept, Scaled};
-use crate::placing::Placing;
-use crate::shape::Frame;
+use crate::frame::Frame;
 use crate::window::Sums;
 use crate::window::window_sums;
+use placing::Placing;
 
 // What some of the terms add to N and U.
 pub(crate) struct Part {

@@ -3,18 +3,20 @@
 ghost use mathlib.Core.Path.{_≡_};
 ghost use lib.ListN.{length};
 ghost use Rattle.unit.specs.Unit.{netOf};
-ghost use Rattle.point.specs.Placing.{weightSum};
-ghost use Rattle.point.specs.Answer.{refusedPoint, sizes, lentRefusal, numberAt, correctionAt, uncertaintyAt, valueAnswer, pointAnswer};
+ghost use Rattle.placing.specs.Placing.{sizes, weightSum};
+ghost use Rattle.point.specs.Answer.{refusedPoint, lentChecks, numberAt, correctionAt, uncertaintyAt, valueAnswer, pointAnswer};
 ghost use Rattle.point.specs.Valuing.{Fit};
 use crate::bernstein::Blended;
-use crate::placing::Placing;
 use crate::window::Gap;
+use placing::Placing;
+use placing::PlacingAnswer;
+use shape::Counts;
+use unit::Checked;
 use unit::Refusal;
 use unit::Unit;
 
 mod bernstein;
-mod placing;
-mod shape;
+mod frame;
 mod window;
 
 // The exact fraction of an answered point: N and U over m!×D^m, unreduced.
@@ -37,27 +39,24 @@ fn refused(number: u32, place: usize) -> PointAnswer
     PointAnswer::Refused(Refusal { number, place })
 }
 
-// The number of the refusal that the unit and the lengths of the lent slices call for, 0 for none.
-fn lent_refusal(unit: Unit, net: usize, corrections: usize, uncertainties: usize) -> u32
-    ensures { λ r. ⌜ r ≡ lentRefusal unit net corrections uncertainties ⌝ }
+// Checks 21, 22, 4 and 9, by the lengths of the lent slices.
+fn check_lent(unit: Unit, net: usize, corrections: usize, uncertainties: usize) -> Checked
+    ensures { λ r. ⌜ r ≡ lentChecks unit net corrections uncertainties ⌝ }
 {
-    if !unit.holds_net() {
-        return 21;
+    if let Checked::Stopped(refusal) = placing::check_unit(unit) {
+        return Checked::Stopped(refusal);
     }
-    if !unit.holds_block() {
-        return 22;
+    if net < shape::places_of(Counts::of_unit(unit)) {
+        return Checked::stop(4, 0);
     }
-    if net < shape::places_of(unit) {
-        return 4;
+    let n = shape::entries_of(unit.n1, unit.n2, unit.n3);
+    if corrections < n {
+        return Checked::stop(9, 0);
     }
-    let entries = shape::entries_of(unit);
-    if corrections < entries {
-        return 9;
+    if uncertainties < n {
+        return Checked::stop(9, 0);
     }
-    if uncertainties < entries {
-        return 9;
-    }
-    0
+    Checked::Passed
 }
 
 // The value at a placing: the gaps of its window first, then share sums, blended numbers and their
@@ -72,7 +71,7 @@ fn value(
     requires { ⌜ Fit unit (length (now net)) (length (now corrections)) (length (now uncertainties)) q ⌝ }
     ensures { λ r. ⌜ r ≡ valueAnswer (netOf unit) (sizes unit) (numberAt (now (net .entry))) (correctionAt (sizes unit) (now (corrections .entry))) (uncertaintyAt (sizes unit) (now (uncertainties .entry))) q (weightSum q) ⌝ }
 {
-    let f = shape::framed(unit, q);
+    let f = frame::framed(unit, q);
     let gap = window::gap_in_window(corrections, f);
     if let Gap::At(i) = gap {
         return refused(13, i);
@@ -102,19 +101,16 @@ pub fn answer(
 ) -> PointAnswer
     ensures { λ r. ⌜ r ≡ pointAnswer unit (now (net .entry)) (now (corrections .entry)) (now (uncertainties .entry)) x y z divisor ⌝ }
 {
-    let lent = lent_refusal(unit, net.len(), corrections.len(), uncertainties.len());
-    if lent != 0 {
-        return refused(lent, 0);
-    }
-    let outside = placing::refusal(unit, x, y, z, divisor);
-    if outside != 0 {
-        return refused(outside, 0);
-    }
-    value(
+    if let Checked::Stopped(refusal) = check_lent(
         unit,
-        net,
-        corrections,
-        uncertainties,
-        placing::place(x, y, z, divisor),
-    )
+        net.len(),
+        corrections.len(),
+        uncertainties.len(),
+    ) {
+        return PointAnswer::Refused(refusal);
+    }
+    match placing::place(unit, x, y, z, divisor) {
+        PlacingAnswer::Placed(q) => value(unit, net, corrections, uncertainties, q),
+        PlacingAnswer::Refused(refusal) => PointAnswer::Refused(refusal),
+    }
 }

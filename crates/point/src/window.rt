@@ -7,7 +7,7 @@ ghost use lib.IntN.{natAbs};
 ghost use Rattle.point.specs.Blending.{isGap};
 ghost use Rattle.point.specs.Answer.{numberAt, signedAt};
 ghost use Rattle.point.specs.Window.{entrySums, addSums, Small, rowSums, planeSums, windowSums, InRow, InPlane, InWindow, rowGap, planeGap, blockGap, GapsInPlane, GapsIn, RowMeasured, PlaneMeasured, BlockMeasured, Searched};
-use crate::shape::Frame;
+use crate::frame::Frame;
 
 // Over the entries of the window: the shares, and the shares times the corrections and times the
 // uncertainties.

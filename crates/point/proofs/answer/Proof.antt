@@ -1,66 +1,95 @@
-use Rattle.point.proofs.Answers.{Lent, lent-facts, Placed, placed-facts, fit, point-unlent, point-unplaced, point-valued}
-use Rattle.point.proofs.Order.{weights-add-up}
-use Rattle.point.specs.Answer.{lentRefusal, placeRefusal}
-use lib.ListN.{length}
-use mathlib.Core.Path.{_≡_, sym, _∙_}
+use mathlib.Core.Path.{_∙_, _≡_, refl, sym}
 use borrow.Author.Needs.{needs}
+use lib.ListN.{length}
+use denote.Ref.{now}
+use Rattle.unit.proofs.Checks.{then-passed}
+use Rattle.unit.specs.declared.Checked.the-variants.{Passed}
+use Rattle.placing.proofs.Order.{weights-add-up}
+use Rattle.placing.proofs.Placed.{place-placed, place-refused, placed}
+use Rattle.placing.specs.Place.{pointChecks, unitChecks}
+use Rattle.placing.specs.Placing.{placing}
+use Rattle.point.proofs.Answers.{Lent, fit, lent}
 use Rattle.point.proofs.answer.Statement.{statement}
+use Rattle.point.specs.Answer.{lentChecks, pointAnswer}
 use Rattle.point.proofs.answer.Tie as tie
 
--- none of the refusals before a valuing applies
-lent-zero : (c : tie.Else1) → (let s = c .before .before .before .before in lentRefusal (s .args .unit) (length (s .args .net .now)) (length (s .args .corrections .now)) (length (s .args .uncertainties .now)) ≡ 0)
-lent-zero c = sym (c .before .lent-refusal .ensures) ∙ c .if1 .left
+-- what is lent has passed its checks
+module _ (c : tie.After-enum-told) where
+  abbrev start : tie.Start
+  start = c .before .before .before .before .before
 
-lent-of : (c : tie.Else1) → (let s = c .before .before .before .before in Lent (s .args .unit) (length (s .args .net .now)) (length (s .args .corrections .now)) (length (s .args .uncertainties .now)))
-lent-of c = lent-facts _ _ _ _ (lent-zero c)
+  passed : lentChecks (start .args .unit) (length (now (start .args .net))) (length (now (start .args .corrections))) (length (now (start .args .uncertainties))) ≡ Passed
+  passed = sym (c .before .before .check-lent .ensures) ∙ c .enum-told .given .1
 
-placed-zero : (c : tie.Else2) → (let s = c .before .before .before .before .before .before in placeRefusal (s .args .unit) (s .args .x) (s .args .y) (s .args .z) (s .args .divisor) ≡ 0)
-placed-zero c = sym (c .before .refusal .ensures) ∙ c .if2 .left
+  held : Lent (start .args .unit) (length (now (start .args .net))) (length (now (start .args .corrections))) (length (now (start .args .uncertainties)))
+  held = lent _ _ _ _ passed
 
-placed-of : (c : tie.Else2) → (let s = c .before .before .before .before .before .before in Placed (s .args .unit) (s .args .x) (s .args .y) (s .args .z) (s .args .divisor))
-placed-of c = placed-facts _ _ _ _ _ (placed-zero c)
+  unit-passed : unitChecks (start .args .unit) ≡ Passed
+  unfolding lentChecks
+  unit-passed = then-passed (unitChecks (start .args .unit)) _ passed .0
 
-lent-refusal-requires : tie.Need-lent-refusal-requires
-lent-refusal-requires c κs = search needs
+point-placed : (c : tie.After-known-told2) → (let s = start (c .before .before .before .before) in
+    (pointChecks (s .args .unit) (s .args .x) (s .args .y) (s .args .z) (s .args .divisor) ≡ Passed) × (c .before .q .given .0 .0 ≡ placing (s .args .x) (s .args .y) (s .args .z) (s .args .divisor)))
+point-placed c =
+    let t = c .before .before .before .before in
+    let s = start t in
+    place-placed (s .args .unit) (s .args .x) (s .args .y) (s .args .z) (s .args .divisor) (unit-passed t) (sym (c .before .before .before .place .ensures) ∙ c .before .q .given .1)
 
-refused-requires : tie.Need-refused-requires
-refused-requires c κs = search needs
+check-lent-requires : tie.Need-check-lent-requires
+check-lent-requires c κs = search needs
+
+enum-known-refusal : tie.Need-enum-known-refusal
+enum-known-refusal c = search needs
 
 returns : tie.Need-returns
-returns c = c .refused .ensures ∙ rw (c .before .before .lent-refusal .ensures) (sym (point-unlent (c .before .before .before .before .before .args .unit) (c .before .before .before .before .before .args .net .now) (c .before .before .before .before .before .args .corrections .now) (c .before .before .before .before .before .args .uncertainties .now) (c .before .before .before .before .before .args .x) (c .before .before .before .before .before .args .y) (c .before .before .before .before .before .args .z) (c .before .before .before .before .before .args .divisor) (rw (c .before .before .lent-refusal .ensures) at (c .before .if1 .taken))))
+unfolding pointAnswer
+returns c = simp (sym (c .before .before .before .check-lent .ensures) ∙ c .before .refusal .given .1)
 
-refusal-requires : tie.Need-refusal-requires
-refusal-requires c κs = let l = lent-of c in (l .net-held, l .block-held)
-
-refused-requires-2 : tie.Need-refused-requires-2
-refused-requires-2 c κs = search needs
-
-returns-2 : tie.Need-returns-2
-returns-2 c = c .refused2 .ensures ∙ rw (c .before .before .refusal .ensures) (sym (point-unplaced (c .before .before .before .before .before .before .before .args .unit) (c .before .before .before .before .before .before .before .args .net .now) (c .before .before .before .before .before .before .before .args .corrections .now) (c .before .before .before .before .before .before .before .args .uncertainties .now) (c .before .before .before .before .before .before .before .args .x) (c .before .before .before .before .before .before .before .args .y) (c .before .before .before .before .before .before .before .args .z) (c .before .before .before .before .before .before .before .args .divisor) (lent-zero (c .before .before .before)) (rw (c .before .before .refusal .ensures) at (c .before .if2 .taken))))
+enum-told : tie.Need-enum-told
+enum-told c = search needs
 
 place-requires : tie.Need-place-requires
-place-requires c κs = placed-of c .some
+place-requires c κs = search needs
+
+enum-known-q : tie.Need-enum-known-q
+enum-known-q c = search needs
 
 value-requires : tie.Need-value-requires
-value-requires c κs = let s = c .before .before .before .before .before .before .before in rw (c .place .ensures) (fit (s .args .unit) (length (s .args .net .now)) (length (s .args .corrections .now)) (length (s .args .uncertainties .now)) (s .args .x) (s .args .y) (s .args .z) (s .args .divisor) (lent-of (c .before .before .before)) (placed-of (c .before)))
+value-requires c κs =
+    let t = c .before .before .before .before in
+    let s = start t in
+    let p = point-placed c in
+    rw (p .1) (fit (s .args .unit) (length (now (s .args .net))) (length (now (s .args .corrections))) (length (now (s .args .uncertainties))) (s .args .x) (s .args .y) (s .args .z) (s .args .divisor) (held t) (placed _ _ _ _ _ (p .0)))
+
+enum-known-refusal-2 : tie.Need-enum-known-refusal-2
+enum-known-refusal-2 c = search needs
+
+returns-2 : tie.Need-returns-2
+unfolding pointAnswer
+returns-2 c =
+    let t = c .before .before .before .before .before in
+    let s = start t in
+    let p = point-placed (c .before) in
+    simp (passed t, p .0) (c .value .ensures ∙ rw (p .1, weights-add-up (s .args .x) (s .args .y) (s .args .z) (s .args .divisor) (placed _ _ _ _ _ (p .0) .some)) refl)
 
 returns-3 : tie.Need-returns-3
+unfolding pointAnswer
 returns-3 c =
-    let s = c .before .before .before .before .before .before .before .before in
-    c .value .ensures
-    ∙ rw (c .before .place .ensures, weights-add-up (s .args .x) (s .args .y) (s .args .z) (s .args .divisor) (placed-of (c .before .before) .some))
-    (sym (point-valued (c .before .before .before .before .before .before .before .before .args .unit) (c .before .before .before .before .before .before .before .before .args .net .now) (c .before .before .before .before .before .before .before .before .args .corrections .now) (c .before .before .before .before .before .before .before .before .args .uncertainties .now) (c .before .before .before .before .before .before .before .before .args .x) (c .before .before .before .before .before .before .before .before .args .y) (c .before .before .before .before .before .before .before .before .args .z) (c .before .before .before .before .before .before .before .before .args .divisor) (lent-zero (c .before .before .before .before)) (placed-zero (c .before .before))))
+    let t = c .before .before .before .before in
+    let s = start t in
+    simp (passed t, place-refused (s .args .unit) (s .args .x) (s .args .y) (s .args .z) (s .args .divisor) (unit-passed t) (sym (c .before .before .before .place .ensures) ∙ c .before .refusal2 .given .1))
 
 pub answer-spec : {M : Type 1} → statement M
 answer-spec =
     tie.close
     (tie.spec
-    lent-refusal-requires
-    refused-requires
+    check-lent-requires
+    enum-known-refusal
     returns
-    refusal-requires
-    refused-requires-2
-    returns-2
+    enum-told
     place-requires
+    enum-known-q
     value-requires
+    enum-known-refusal-2
+    returns-2
     returns-3)

@@ -1,24 +1,24 @@
-use Rattle.point.proofs.Answers.{scaled-of, swept-of, value-gap, value-uneven, value-is}
-use Rattle.point.proofs.Values.{whole-blended}
-use Rattle.point.proofs.Searches.{block-gap}
-use Rattle.point.proofs.Windows.{Inside, inside-of, gaps-in}
-use Rattle.point.proofs.Portions.{blended-even, blended-uneven}
-use Rattle.point.proofs.Gaps.{gap-at, gap-nowhere}
-use Rattle.point.specs.Portion.{part, Portion, portion, blended}
-use Rattle.point.specs.Window.{frameOf, BlockMeasured, Searched}
-use Rattle.point.specs.Answer.{sizes, numberAt, signedAt, correctionAt, uncertaintyAt}
-use Rattle.point.specs.Blending.{numerator, uncertainty, addsUp, firstGap}
-use Rattle.point.specs.Placing.{cell}
-use Rattle.unit.specs.Unit.{netOf}
-use Rattle.sums.specs.Search.{nowhere}
-use mir.Facts.{toZ-ofZ}
-use mir.Val.{SFits}
-use mir.Syntax.{w64}
-use lib.ListN.{length}
-use mathlib.Core.Path.{_≡_, sym, _∙_}
+use mathlib.Core.Path.{_∙_, _≡_, sym}
 use native.Mathlib.Omega.{arith}
 use borrow.Author.Needs.{needs}
+use lib.ListN.{length}
+use mir.Facts.{toZ-ofZ}
+use mir.Syntax.{w64}
+use mir.Val.{SFits}
+use Rattle.sums.specs.Search.{nowhere}
+use Rattle.unit.specs.Unit.{netOf}
+use Rattle.placing.specs.Placing.{cell, sizes}
+use Rattle.point.proofs.Answers.{scaled-of, swept-of, value-gap, value-is, value-uneven}
+use Rattle.point.proofs.Gaps.{gap-at, gap-nowhere}
+use Rattle.point.proofs.Portions.{blended-even, blended-uneven}
+use Rattle.point.proofs.Searches.{block-gap}
+use Rattle.point.proofs.Values.{whole-blended}
+use Rattle.point.proofs.Windows.{Inside, gaps-in, inside-of}
 use Rattle.point.proofs.value.Statement.{statement}
+use Rattle.point.specs.Answer.{correctionAt, numberAt, signedAt, uncertaintyAt}
+use Rattle.point.specs.Blending.{addsUp, firstGap, numerator, uncertainty}
+use Rattle.point.specs.Portion.{Portion, blended, part, portion}
+use Rattle.point.specs.Window.{BlockMeasured, Searched, frameOf}
 use Rattle.point.proofs.value.Tie as tie
 
 module _ (s : tie.Start) where

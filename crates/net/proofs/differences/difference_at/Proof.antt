@@ -4,18 +4,18 @@ use native.Mathlib.Nat.{mul-le-mul}
 use native.Mathlib.Omega.{arith}
 use borrow.Author.Needs.{needs}
 use lib.IntN.{_-ℤ_, pos}
+use denote.Ref.{now}
 use mir.Facts.{toZ-ofZ}
 use mir.Syntax.{w32}
 use mir.Val.{SFits}
-use denote.Ref.{now}
 use Rattle.sums.proofs.Accumulator.{fits}
 use Rattle.spline.specs.Build.{direction}
 use Rattle.spline.specs.Place.{a1, a2, a3}
+use Rattle.shape.specs.Shape.{widths}
 use Rattle.net.proofs.Coordinates.{component-le}
 use Rattle.net.proofs.LoweredPlaces.{difference-code}
 use Rattle.net.proofs.differences.difference_at.Statement.{statement}
-use Rattle.net.specs.Shape.{widths}
-use Rattle.net.specs.declared.shape.Vector.{Vector}
+use Rattle.net.specs.declared.direction.Vector.{Vector}
 use Rattle.net.proofs.differences.difference_at.Tie as tie
 
 -- the products of the degree and the vector

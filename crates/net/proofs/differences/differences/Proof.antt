@@ -5,10 +5,10 @@ use native.Mathlib.Nat.{le-antisymm}
 use native.Mathlib.Omega.{arith}
 use lib.IntN.{pos, ℤ}
 use lib.ListN.{length, length-set, set}
+use denote.Ref.{now}
 use mir.Facts.{toZ-ofZ}
 use mir.Syntax.{w32}
 use mir.Val.{SFits, ofZ, toZ}
-use denote.Ref.{now}
 use Rattle.sums.proofs.Accumulator.{fits}
 use Rattle.sums.proofs.Fill.{fill-none, fill-store}
 use Rattle.sums.proofs.Places.{place-in}
@@ -16,10 +16,10 @@ use Rattle.sums.specs.Fill.{filled}
 use Rattle.spline.specs.Box.{spread}
 use Rattle.spline.specs.Build.{direction}
 use Rattle.spline.specs.Place.{place}
+use Rattle.shape.specs.Shape.{Boxed, widths}
+use Rattle.shape.specs.declared.Shape.{Shape}
 use Rattle.net.proofs.differences.differences.Statement.{statement}
-use Rattle.net.specs.Shape.{Boxed, widths}
 use Rattle.net.specs.Step.{difference}
-use Rattle.net.specs.declared.shape.Shape.{Shape}
 use Rattle.net.proofs.differences.differences.Tie as tie
 
 -- what the pass writes at an index

@@ -7,9 +7,9 @@ use Rattle.sums.proofs.Places.{index-in}
 use Rattle.spline.proofs.Box.{spread-at, spread-outside}
 use Rattle.spline.specs.Box.{places}
 use Rattle.spline.specs.Place.{a1, a2, a3, place}
+use Rattle.shape.specs.Shape.{widths}
 use Rattle.net.proofs.Bounds.{row-bounds}
 use Rattle.net.proofs.differences.read.Statement.{statement}
-use Rattle.net.specs.Shape.{widths}
 use Rattle.net.proofs.differences.read.Tie as tie
 
 module _ (c : tie.Else3) where

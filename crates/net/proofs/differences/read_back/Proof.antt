@@ -6,9 +6,9 @@ use denote.Ref.{now}
 use Rattle.spline.proofs.Box.{spread-vanishes}
 use Rattle.spline.specs.Box.{spread}
 use Rattle.spline.specs.Place.{a1, a2, a3, place}
+use Rattle.shape.specs.Shape.{widths}
 use Rattle.net.proofs.Coordinates.{place-cong, sub-inside, sub-outside}
 use Rattle.net.proofs.differences.read_back.Statement.{statement}
-use Rattle.net.specs.Shape.{widths}
 use Rattle.net.proofs.differences.read_back.Tie as tie
 
 returns : tie.Need-returns

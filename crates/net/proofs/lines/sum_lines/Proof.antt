@@ -5,21 +5,21 @@ use native.Mathlib.Nat.{le-antisymm}
 use native.Mathlib.Omega.{arith}
 use lib.IntN.{_+ℤ_, natAbs, pos, ℤ}
 use lib.ListN.{getD, length, length-set, set}
+use denote.Ref.{now}
 use mir.Facts.{toZ-ofZ}
 use mir.Syntax.{w32}
 use mir.Val.{SFits, ofZ, toZ}
-use denote.Ref.{now}
 use Rattle.sums.proofs.Accumulator.{fits}
 use Rattle.sums.proofs.Fill.{fill-none, fill-store}
 use Rattle.sums.specs.Fill.{filled}
 use Rattle.spline.specs.Box.{placeOf, places}
 use Rattle.spline.specs.Build.{direction}
+use Rattle.shape.specs.Shape.{Boxed, widths}
+use Rattle.shape.specs.declared.Shape.{Shape}
 use Rattle.net.proofs.EdgeSums.{prior, turn}
 use Rattle.net.proofs.lines.sum_lines.Statement.{statement}
-use Rattle.net.specs.Shape.{Boxed, widths}
 use Rattle.net.specs.Step.{NetNumber, edgeSum, readBack}
-use Rattle.net.specs.declared.shape.Shape.{Shape}
-use Rattle.net.specs.declared.shape.Vector.{Vector}
+use Rattle.net.specs.declared.direction.Vector.{Vector}
 use Rattle.net.proofs.lines.sum_lines.Tie as tie
 
 -- what the pass writes at an index

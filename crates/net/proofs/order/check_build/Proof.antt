@@ -11,8 +11,6 @@ use Rattle.unit.specs.declared.Checked.the-variants.{Passed}
 use Rattle.net.proofs.Accepted.{order-accepted}
 use Rattle.net.proofs.order.check_build.Statement.{statement}
 use Rattle.net.specs.Order.{buildChecks, orderChecks, orderPlaces}
-use Rattle.net.specs.Shape.{widths}
-use Rattle.net.specs.declared.shape.Shape.{Shape}
 use Rattle.net.proofs.order.check_build.Tie as tie
 
 -- the order has passed its checks
@@ -26,10 +24,10 @@ module _ (c : tie.After-enum-told) where
 -- the places of its box have been counted
 module _ (c : tie.After-places-of) where
   abbrev told : tie.After-enum-told
-  told = c .before .before .before
+  told = c .before .before
 
   room : c .places-of .result ≡ orderPlaces (order told)
-  room = c .places-of .ensures .0 ∙ ap (λ (s : Shape). places (widths s)) (c .before .shape-of .ensures .0) ∙ ap (λ (v : Multiplicities). places (width v)) (c .before .before .counts-of .ensures .0)
+  room = c .places-of .ensures ∙ ap (λ (v : Multiplicities). places (width v)) (c .before .counts-of .ensures .0)
 
 check-order-requires : tie.Need-check-order-requires
 check-order-requires c κs = search needs
@@ -46,9 +44,6 @@ enum-told c = search needs
 
 counts-of-requires : tie.Need-counts-of-requires
 counts-of-requires c κs = order-accepted _ (passed c)
-
-shape-of-requires : tie.Need-shape-of-requires
-shape-of-requires c κs = search needs
 
 places-of-requires : tie.Need-places-of-requires
 places-of-requires c κs = search needs
@@ -94,7 +89,6 @@ check-build-spec =
     returns
     enum-told
     counts-of-requires
-    shape-of-requires
     places-of-requires
     stop-requires
     returns-2

@@ -7,9 +7,9 @@ use lib.Seq.{take-length}
 use denote.Ref.{now}
 use Rattle.spline.specs.Build.{direction}
 use Rattle.spline.specs.Multiplicities.{more, orderMultiplicities}
+use Rattle.shape.specs.Shape.{counted}
 use Rattle.net.proofs.Orders.{good-byte, multiplicities-next, prefix-limits}
 use Rattle.net.proofs.order.counts_of.Statement.{statement}
-use Rattle.net.specs.Shape.{counted}
 use Rattle.net.proofs.order.counts_of.Tie as tie
 
 abbrev Inv-loop : tie.InvT-loop

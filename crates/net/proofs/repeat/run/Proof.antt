@@ -11,10 +11,10 @@ use Rattle.sums.specs.Fill.{filled}
 use Rattle.spline.specs.Box.{netList}
 use Rattle.spline.specs.Build.{direction, orderNet}
 use Rattle.spline.specs.Multiplicities.{more, orderMultiplicities}
+use Rattle.shape.specs.Shape.{counted}
 use Rattle.net.proofs.Orders.{good-byte, multiplicities-next, prefix-limits, prefix-next, prefix-places}
 use Rattle.net.proofs.repeat.run.Statement.{statement}
 use Rattle.net.specs.Order.{orderNumber, orderPlaces, orderWidth}
-use Rattle.net.specs.Shape.{counted}
 use Rattle.net.proofs.repeat.run.Tie as tie
 
 abbrev Inv-loop : tie.InvT-loop

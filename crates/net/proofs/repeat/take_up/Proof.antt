@@ -10,14 +10,15 @@ use Rattle.sums.proofs.Fill.{filled-at, length-filled}
 use Rattle.sums.specs.Fill.{filled}
 use Rattle.spline.specs.Box.{placeOf, places, spread}
 use Rattle.spline.specs.Build.{direction}
+use Rattle.shape.proofs.Shapes.{limited-boxed}
+use Rattle.shape.specs.Shape.{Boxed, Limited, widths}
+use Rattle.shape.specs.declared.Counts.{Counts}
+use Rattle.shape.specs.declared.Shape.{Shape}
 use Rattle.net.proofs.Orders.{good-byte, prefix-limits}
 use Rattle.net.proofs.TakenUp.{at-most, counted-next, degree-most, net-sums, new-list, new-room, old-room}
 use Rattle.net.proofs.repeat.take_up.Statement.{statement}
 use Rattle.net.specs.Order.{orderNumber, orderPlaces}
-use Rattle.net.specs.Shape.{Limited, widths}
 use Rattle.net.specs.Step.{AtMost, NetSums, difference, edgeSum}
-use Rattle.net.specs.declared.shape.Counts.{Counts}
-use Rattle.net.specs.declared.shape.Shape.{Shape}
 use Rattle.net.proofs.repeat.take_up.Tie as tie
 
 module _ (s : tie.Start) where
@@ -54,6 +55,13 @@ module _ (b : tie.After-shape-of2) where
   old-fits : places (widths old) ≤ length (now (start .args .net))
   old-fits = old-room o (start .pre .0 .0) t (start .pre .0 .1) (start .args .c) k old new (start .pre .0 .2) (b .before .before .shape-of .ensures .0) (b .before .one-more .ensures) (b .shape-of2 .ensures .0) _ (start .pre .1 .0)
 
+  old-boxed : Boxed old
+  old-boxed = subst Boxed (sym (b .before .before .shape-of .ensures .0)) (limited-boxed (start .args .c) (limits start 12 (omega arith)))
+
+  new-boxed : Boxed new
+  new-boxed =
+      subst Boxed (sym (b .shape-of2 .ensures .0)) (limited-boxed k (prefix-limits o (t + 1) k 12 (counted-next o t (start .args .c) k (start .pre .0 .1) (start .pre .0 .2) (b .before .one-more .ensures)) (omega (arith, start .pre .0 .1)) (omega (arith, start .pre .0 .1, start .pre .0 .0 .short))))
+
   new-fits : (n : ℕ) → orderPlaces o ≤ n → places (widths new) ≤ n
   new-fits = new-room o (start .pre .0 .0) t (start .pre .0 .1) (start .args .c) k old new (start .pre .0 .2) (b .before .before .shape-of .ensures .0) (b .before .one-more .ensures) (b .shape-of2 .ensures .0)
 
@@ -79,23 +87,19 @@ shared-slice-read-d : tie.Need-shared-slice-read-d
 shared-slice-read-d c = search needs
 
 shape-of-requires : tie.Need-shape-of-requires
-shape-of-requires c κs = limits (c .before .before .before) 12 (omega arith)
+shape-of-requires c κs = search needs
 
 one-more-requires : tie.Need-one-more-requires
 one-more-requires c κs = (byte (c .before .before .before .before) .0, byte (c .before .before .before .before) .1, limits (c .before .before .before .before) 11 (omega arith))
 
 shape-of-requires-2 : tie.Need-shape-of-requires-2
-shape-of-requires-2 c κs =
-    let s = c .before .before .before .before .before in
-    let o = now (s .args .order) in
-    let t = s .args .t in
-    prefix-limits o (t + 1) (c .one-more .result) 12 (counted-next o t (s .args .c) (c .one-more .result) (s .pre .0 .1) (s .pre .0 .2) (c .one-more .ensures)) (omega (arith, s .pre .0 .1)) (omega (arith, s .pre .0 .1, s .pre .0 .0 .short))
+shape-of-requires-2 c κs = search needs
 
 differences-requires : tie.Need-differences-requires
 differences-requires c κs =
     let b = c .before .before in
     let s = start b in
-    ((b .before .before .shape-of .ensures .1, b .shape-of2 .ensures .1, most b, byte s .0, byte s .1), (old-fits b, new-fits b (length (now (s .args .work))) (s .pre .1 .1), numbers b))
+    ((old-boxed b, new-boxed b, most b, byte s .0, byte s .1), (old-fits b, new-fits b (length (now (s .args .work))) (s .pre .1 .1), numbers b))
 
 sum-lines-requires : tie.Need-sum-lines-requires
 sum-lines-requires c κs =
@@ -103,7 +107,7 @@ sum-lines-requires c κs =
     let s = start b in
     let w = c .before .before .before .differences .last .1 .0 in
     let e = c .before .before .before .differences .ensures in
-    ((b .shape-of2 .ensures .1, byte s .0, byte s .1), (new-fits b (length (now (s .args .net))) (s .pre .1 .0), subst (λ (l : List ℤ). places (widths (new b)) ≤ length l) (sym e) (omega (arith, length-filled (written b) (places (widths (new b))) (now (s .args .work)) (new-fits b _ (s .pre .1 .1)), new-fits b _ (s .pre .1 .1))), sums b w e))
+    ((new-boxed b, byte s .0, byte s .1), (new-fits b (length (now (s .args .net))) (s .pre .1 .0), subst (λ (l : List ℤ). places (widths (new b)) ≤ length l) (sym e) (omega (arith, length-filled (written b) (places (widths (new b))) (now (s .args .work)) (new-fits b _ (s .pre .1 .1)), new-fits b _ (s .pre .1 .1))), sums b w e))
 
 same-length : tie.Need-same-length
 same-length c = search needs

@@ -1,12 +1,12 @@
-use Rattle.point.proofs.Weights.{powers-within, placing-fits, whole-cong}
-use Rattle.point.specs.Valuing.{listSums}
-use Rattle.point.specs.Portion.{blended}
-use Rattle.point.specs.Answer.{numberAt}
-use Prim.Native.Nat.{_^_}
 use mathlib.Core.Path.{_∙_, ap}
+use Prim.Native.Nat.{_^_}
 use native.Mathlib.Omega.{arith}
 use borrow.Author.Needs.{needs}
+use Rattle.point.proofs.Weights.{placing-fits, powers-within, whole-cong}
 use Rattle.point.proofs.bernstein.bernstein_sums.Statement.{statement}
+use Rattle.point.specs.Answer.{numberAt}
+use Rattle.point.specs.Portion.{blended}
+use Rattle.point.specs.Valuing.{listSums}
 use Rattle.point.proofs.bernstein.bernstein_sums.Tie as tie
 
 cast-powers : tie.Need-cast-powers

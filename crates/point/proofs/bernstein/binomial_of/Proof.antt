@@ -1,15 +1,15 @@
-use Rattle.sums.proofs.Search.{all-at}
-use Rattle.sums.specs.Search.{allTo}
-use Rattle.sums.specs.Coefficient.{factorial, binomial}
-use borrow.Author.Tests.{eqb-true, ltb-true}
-use lib.ListN.{getD}
-use lib.Dec.{eqb, ltb}
-use Prim.Native.Nat.{ℕ, suc, _≤_, _<_}
-use mathlib.Core.List.{List, [], _∷_}
 use mathlib.Core.Bool.{true}
+use mathlib.Core.List.{List, [], _∷_}
 use mathlib.Core.Path.{_≡_, refl}
+use Prim.Native.Nat.{_<_, _≤_, suc, ℕ}
 use native.Mathlib.Omega.{arith}
 use borrow.Author.Needs.{needs}
+use borrow.Author.Tests.{eqb-true, ltb-true}
+use lib.Dec.{eqb, ltb}
+use lib.ListN.{getD}
+use Rattle.sums.proofs.Search.{all-at}
+use Rattle.sums.specs.Coefficient.{binomial, factorial}
+use Rattle.sums.specs.Search.{allTo}
 use Rattle.point.proofs.bernstein.binomial_of.Statement.{statement}
 use Rattle.point.proofs.bernstein.binomial_of.Tie as tie
 

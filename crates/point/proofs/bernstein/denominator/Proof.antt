@@ -1,7 +1,7 @@
-use Rattle.point.proofs.Weights.{power-within}
 use mathlib.Core.Path.{refl}
 use native.Mathlib.Omega.{arith}
 use borrow.Author.Needs.{needs}
+use Rattle.point.proofs.Weights.{power-within}
 use Rattle.point.proofs.bernstein.denominator.Statement.{statement}
 use Rattle.point.proofs.bernstein.denominator.Tie as tie
 

@@ -1,6 +1,6 @@
-use Rattle.point.proofs.Machine.{add-fits, add-read}
 use mathlib.Core.Path.{refl}
 use borrow.Author.Needs.{needs}
+use Rattle.point.proofs.Machine.{add-fits, add-read}
 use Rattle.point.proofs.bernstein.joined.Statement.{statement}
 use Rattle.point.proofs.bernstein.joined.Tie as tie
 

@@ -1,17 +1,17 @@
-use Rattle.point.specs.declared.window.Sums.{Sums}
-use Rattle.point.proofs.Lines.{terms, numerator-fits, uncertainty-fits, term-sized, term-correction, term-uncertainty}
-use Rattle.point.proofs.Portions.{parts-none, even-none, parts-next, even-next, uneven-at, even-end, next-numerator, next-uncertainty, Sized}
-use Rattle.point.specs.Valuing.{lineWeight, listSums}
-use Rattle.point.specs.Portion.{Portion, portions, linePortion, factor, term, sumsAt}
-use Rattle.point.specs.Window.{InWindow}
-use Rattle.point.specs.Answer.{numberAt}
+use mathlib.Core.Bool.{false, true}
+use mathlib.Core.Path.{_∙_, _≡_, refl}
+use Prim.Native.Nat.{_*_, _+_, _-_, _<_, _^_, _≤_, suc, ℕ}
+use native.Mathlib.Omega.{arith}
 use borrow.Author.Tests.{eq-eqb, ne-eqb}
 use lib.ListN.{length}
-use Prim.Native.Nat.{ℕ, suc, _+_, _*_, _-_, _≤_, _<_, _^_}
-use mathlib.Core.Bool.{true, false}
-use mathlib.Core.Path.{_≡_, refl, _∙_}
-use native.Mathlib.Omega.{arith}
+use Rattle.point.proofs.Lines.{numerator-fits, term-correction, term-sized, term-uncertainty, terms, uncertainty-fits}
+use Rattle.point.proofs.Portions.{Sized, even-end, even-next, even-none, next-numerator, next-uncertainty, parts-next, parts-none, uneven-at}
 use Rattle.point.proofs.bernstein.line.Statement.{statement}
+use Rattle.point.specs.Answer.{numberAt}
+use Rattle.point.specs.Portion.{Portion, factor, linePortion, portions, sumsAt, term}
+use Rattle.point.specs.Valuing.{lineWeight, listSums}
+use Rattle.point.specs.Window.{InWindow}
+use Rattle.point.specs.declared.window.Sums.{Sums}
 use Rattle.point.proofs.bernstein.line.Tie as tie
 
 abbrev Inv-loop : tie.InvT-loop

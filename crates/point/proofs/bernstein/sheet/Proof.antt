@@ -1,14 +1,14 @@
-use Rattle.point.proofs.Lines.{lines, numerator-fits, uncertainty-fits, line-sized}
-use Rattle.point.proofs.Portions.{parts-none, even-none, parts-next, even-next, uneven-at, even-end, next-numerator, next-uncertainty, blended-even, blended-uneven, Sized}
-use Rattle.point.specs.Valuing.{lineWeight, sheetWeight, listSums}
-use Rattle.point.specs.Portion.{Portion, portions, blended, sheetPortion, factor}
-use Rattle.point.specs.Answer.{numberAt}
-use borrow.Author.Needs.{needs}
-use Prim.Native.Nat.{ℕ, suc, _+_, _*_, _-_, _^_, _≤_, _<_}
 use mathlib.Core.Bool.{true}
-use mathlib.Core.Path.{_≡_, refl, sym, _∙_}
+use mathlib.Core.Path.{_∙_, _≡_, refl, sym}
+use Prim.Native.Nat.{_*_, _+_, _-_, _<_, _^_, _≤_, suc, ℕ}
 use native.Mathlib.Omega.{arith}
+use borrow.Author.Needs.{needs}
+use Rattle.point.proofs.Lines.{line-sized, lines, numerator-fits, uncertainty-fits}
+use Rattle.point.proofs.Portions.{Sized, blended-even, blended-uneven, even-end, even-next, even-none, next-numerator, next-uncertainty, parts-next, parts-none, uneven-at}
 use Rattle.point.proofs.bernstein.sheet.Statement.{statement}
+use Rattle.point.specs.Answer.{numberAt}
+use Rattle.point.specs.Portion.{Portion, blended, factor, portions, sheetPortion}
+use Rattle.point.specs.Valuing.{lineWeight, listSums, sheetWeight}
 use Rattle.point.proofs.bernstein.sheet.Tie as tie
 
 abbrev Inv-loop : tie.InvT-loop

@@ -1,7 +1,7 @@
-use Rattle.point.proofs.Machine.{add-fits, add-read}
 use mathlib.Core.Path.{refl}
 use native.Mathlib.Omega.{arith}
 use borrow.Author.Needs.{needs}
+use Rattle.point.proofs.Machine.{add-fits, add-read}
 use Rattle.point.proofs.window.added.Statement.{statement}
 use Rattle.point.proofs.window.added.Tie as tie
 

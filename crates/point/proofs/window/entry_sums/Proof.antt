@@ -1,13 +1,13 @@
-use Prim.Native.Nat.{_*_, _^_, _<_}
-use Rattle.point.proofs.Sweep.{entry-correction, entry-uncertainty, small-entry}
-use Rattle.sums.proofs.Accumulator.{fits-size, mul-fits, mul-read}
-use mir.Facts.{toZ-ofZ, sfits-widen}
-use mir.Val.{SFits}
-use mir.Syntax.{w16, w64}
-use lib.IntN.{pos, *ℤ-comm, natAbs}
 use mathlib.Core.Path.{refl}
+use Prim.Native.Nat.{_*_, _<_, _^_}
 use native.Mathlib.Omega.{arith}
 use borrow.Author.Needs.{needs}
+use lib.IntN.{*ℤ-comm, natAbs, pos}
+use mir.Facts.{sfits-widen, toZ-ofZ}
+use mir.Syntax.{w16, w64}
+use mir.Val.{SFits}
+use Rattle.sums.proofs.Accumulator.{fits-size, mul-fits, mul-read}
+use Rattle.point.proofs.Sweep.{entry-correction, entry-uncertainty, small-entry}
 use Rattle.point.proofs.window.entry_sums.Statement.{statement}
 use Rattle.point.proofs.window.entry_sums.Tie as tie
 

@@ -1,14 +1,14 @@
+use mathlib.Core.Path.{_∙_, _≡_, sym}
+use Prim.Native.Nat.{_*_, _+_, _-_, _<_, _≤_, ℕ}
+use native.Mathlib.Nat.{mul-le-mul}
+use native.Mathlib.Omega.{arith}
 use borrow.Author.Count.{below-more}
 use borrow.Author.Needs.{needs}
-use Rattle.point.proofs.Gaps.{first-of-none, first-of-next, first-of-hit, gap-at, gap-nowhere, searched-hit, searched-none}
-use Rattle.point.specs.Window.{firstOf, rowGap, planeGap, RowMeasured}
-use Rattle.sums.specs.Search.{Found, nowhere, at}
-use Rattle.point.specs.Answer.{signedAt}
-use native.Mathlib.Nat.{mul-le-mul}
-use Prim.Native.Nat.{ℕ, _+_, _*_, _-_, _≤_, _<_}
-use mathlib.Core.Path.{_≡_, sym, _∙_}
-use native.Mathlib.Omega.{arith}
+use Rattle.sums.specs.Search.{Found, at, nowhere}
+use Rattle.point.proofs.Gaps.{first-of-hit, first-of-next, first-of-none, gap-at, gap-nowhere, searched-hit, searched-none}
 use Rattle.point.proofs.window.gap_in_plane.Statement.{statement}
+use Rattle.point.specs.Answer.{signedAt}
+use Rattle.point.specs.Window.{RowMeasured, firstOf, planeGap, rowGap}
 use Rattle.point.proofs.window.gap_in_plane.Tie as tie
 
 abbrev Inv-loop : tie.InvT-loop

@@ -1,20 +1,20 @@
-use Rattle.point.specs.Answer.{signedAt}
-use borrow.Author.Count.{below-more}
-use Rattle.point.proofs.Gaps.{first-of-none, first-of-next, first-of-hit, searched-hit, searched-none}
-use Rattle.point.specs.Window.{firstOf, entryGap, rowGap, RowMeasured}
-use Rattle.point.specs.Blending.{isGap}
-use Rattle.sums.specs.Search.{Found, nowhere, at}
-use mir.Facts.{toZ-ofZ}
-use mir.Val.{SFits}
-use mir.Syntax.{w16}
-use lib.IntN.{ℤ, natAbs}
-use borrow.Author.Needs.{needs}
-use mathlib.Core.List.{List}
-use Prim.Native.Nat.{ℕ, _+_, _-_, _≤_}
 use mathlib.Core.Bool.{false}
+use mathlib.Core.List.{List}
 use mathlib.Core.Path.{_≡_, refl}
+use Prim.Native.Nat.{_+_, _-_, _≤_, ℕ}
 use native.Mathlib.Omega.{arith}
+use borrow.Author.Count.{below-more}
+use borrow.Author.Needs.{needs}
+use lib.IntN.{natAbs, ℤ}
+use mir.Facts.{toZ-ofZ}
+use mir.Syntax.{w16}
+use mir.Val.{SFits}
+use Rattle.sums.specs.Search.{Found, at, nowhere}
+use Rattle.point.proofs.Gaps.{first-of-hit, first-of-next, first-of-none, searched-hit, searched-none}
 use Rattle.point.proofs.window.gap_in_row.Statement.{statement}
+use Rattle.point.specs.Answer.{signedAt}
+use Rattle.point.specs.Blending.{isGap}
+use Rattle.point.specs.Window.{RowMeasured, entryGap, firstOf, rowGap}
 use Rattle.point.proofs.window.gap_in_row.Tie as tie
 
 abbrev gaps : List ℤ → ℕ → ℕ → Found

@@ -1,4 +1,4 @@
-use mathlib.Core.Path.{sym, _∙_}
+use mathlib.Core.Path.{_∙_, sym}
 use Rattle.point.proofs.Machine.{gap-bits, measured-size}
 use Rattle.point.proofs.window.is_gap.Statement.{statement}
 use Rattle.point.proofs.window.is_gap.Tie as tie

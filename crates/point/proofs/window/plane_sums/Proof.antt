@@ -1,13 +1,13 @@
-use Rattle.point.proofs.Sweep.{sums-none, sums-next, small-none, small-add, small-more}
-use Rattle.point.specs.Window.{sumsTo, Small, rowSums, planeSums, InRow}
-use Rattle.point.specs.Answer.{numberAt}
-use lib.IntN.{pos}
-use lib.ListN.{length, getD}
+use mathlib.Core.Path.{_∙_, _≡_}
+use Prim.Native.Nat.{_*_, _+_, _-_, _≤_}
 use native.Mathlib.Nat.{mul-le-mul}
-use Prim.Native.Nat.{_+_, _*_, _-_, _≤_}
-use mathlib.Core.Path.{_≡_, _∙_}
 use native.Mathlib.Omega.{arith}
+use lib.IntN.{pos}
+use lib.ListN.{getD, length}
+use Rattle.point.proofs.Sweep.{small-add, small-more, small-none, sums-next, sums-none}
 use Rattle.point.proofs.window.plane_sums.Statement.{statement}
+use Rattle.point.specs.Answer.{numberAt}
+use Rattle.point.specs.Window.{InRow, Small, planeSums, rowSums, sumsTo}
 use Rattle.point.proofs.window.plane_sums.Tie as tie
 
 abbrev Inv-loop : tie.InvT-loop

@@ -1,18 +1,18 @@
-use Rattle.point.proofs.Sweep.{sums-none, sums-next, small-none, small-add, small-more}
-use Rattle.point.specs.Window.{entrySums, sumsTo, Small, rowSums}
-use Rattle.point.specs.Answer.{numberAt}
-use Rattle.point.specs.declared.window.Sums.{Sums}
-use mir.Facts.{toZ-ofZ}
-use mir.Val.{SFits}
-use mir.Syntax.{w16}
-use lib.IntN.{ℤ, pos}
-use lib.ListN.{length, getD}
-use borrow.Author.Needs.{needs}
-use Prim.Native.Nat.{ℕ, _+_, _*_, _-_, _≤_, _<_}
 use mathlib.Core.List.{List}
-use mathlib.Core.Path.{_≡_, _∙_, ap}
+use mathlib.Core.Path.{_∙_, _≡_, ap}
+use Prim.Native.Nat.{_*_, _+_, _-_, _<_, _≤_, ℕ}
 use native.Mathlib.Omega.{arith}
+use borrow.Author.Needs.{needs}
+use lib.IntN.{pos, ℤ}
+use lib.ListN.{getD, length}
+use mir.Facts.{toZ-ofZ}
+use mir.Syntax.{w16}
+use mir.Val.{SFits}
+use Rattle.point.proofs.Sweep.{small-add, small-more, small-none, sums-next, sums-none}
 use Rattle.point.proofs.window.row_sums.Statement.{statement}
+use Rattle.point.specs.Answer.{numberAt}
+use Rattle.point.specs.Window.{Small, entrySums, rowSums, sumsTo}
+use Rattle.point.specs.declared.window.Sums.{Sums}
 use Rattle.point.proofs.window.row_sums.Tie as tie
 
 abbrev entries : List ℕ → List ℤ → List ℕ → ℕ → ℕ → ℕ → ℕ → Sums

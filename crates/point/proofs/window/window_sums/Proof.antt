@@ -1,14 +1,14 @@
-use Rattle.point.proofs.Sweep.{sums-none, sums-next, small-none, small-add, small-more}
-use Rattle.point.specs.Window.{sumsTo, Small, planeSums, windowSums, InPlane}
-use Rattle.point.specs.Answer.{numberAt}
-use Rattle.point.specs.declared.window.Sums.{Sums}
-use lib.IntN.{pos}
-use lib.ListN.{length, getD}
+use mathlib.Core.Path.{_∙_, _≡_}
+use Prim.Native.Nat.{_*_, _+_, _-_, _≤_, ℕ}
 use native.Mathlib.Nat.{mul-le-mul}
-use Prim.Native.Nat.{ℕ, _+_, _*_, _-_, _≤_}
-use mathlib.Core.Path.{_≡_, _∙_}
 use native.Mathlib.Omega.{arith}
+use lib.IntN.{pos}
+use lib.ListN.{getD, length}
+use Rattle.point.proofs.Sweep.{small-add, small-more, small-none, sums-next, sums-none}
 use Rattle.point.proofs.window.window_sums.Statement.{statement}
+use Rattle.point.specs.Answer.{numberAt}
+use Rattle.point.specs.Window.{InPlane, Small, planeSums, sumsTo, windowSums}
+use Rattle.point.specs.declared.window.Sums.{Sums}
 use Rattle.point.proofs.window.window_sums.Tie as tie
 
 abbrev Inv-loop : tie.InvT-loop

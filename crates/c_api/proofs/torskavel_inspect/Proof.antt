@@ -1,0 +1,27 @@
+use mathlib.Core.Path.{_∙_, ap}
+use borrow.Author.Needs.{needs}
+use Rattle.c_api.specs.Flat.{flatUnit}
+use Rattle.c_api.proofs.torskavel_inspect.Statement.{statement}
+use Rattle.c_api.proofs.torskavel_inspect.Tie as tie
+
+inspect-requires : tie.Need-inspect-requires
+inspect-requires c κs = search needs
+
+flat-unit-requires : tie.Need-flat-unit-requires
+flat-unit-requires c κs = search needs
+
+same-length : tie.Need-same-length
+same-length c = search needs
+
+same-length-2 : tie.Need-same-length-2
+same-length-2 c = search needs
+
+returns : tie.Need-returns
+returns c =
+    let call = c .before .before .before .before in
+    let start = call .before .before .before .before .before in
+    (c .flat-unit .ensures ∙ ap (flatUnit (start .args .unit)) (call .inspect .ensures .0), call .inspect .ensures .1)
+
+pub torskavel-inspect-spec : {M : Type 1} → statement M
+torskavel-inspect-spec =
+    tie.close (tie.spec inspect-requires flat-unit-requires same-length same-length-2 returns)

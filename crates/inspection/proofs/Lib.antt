@@ -1,0 +1,2 @@
+pub mod DefinedBytes
+pub mod Limits

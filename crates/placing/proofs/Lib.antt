@@ -1,0 +1,4 @@
+pub mod Sizes
+pub mod Order
+pub mod Scale
+pub mod Placed

@@ -1,0 +1,66 @@
+use mathlib.Core.Path.{_≡_, refl, sym}
+use Prim.Native.Nat.{_*_, _+_, _-_, _≤_, ℕ}
+use native.Mathlib.Nat.{mul-le-mul}
+use native.Mathlib.Omega.{arith}
+use borrow.Author.Tests.{le-leb, lt-leb}
+use Rattle.placing.proofs.Scale.{scale-le, scale-next, scale-zero}
+use Rattle.placing.proofs.scale_allowed.Statement.{statement}
+use Rattle.placing.specs.Place.{limit, scale}
+use Rattle.placing.proofs.scale_allowed.Tie as tie
+
+-- one factor more
+step : {s : ℕ} (D i : ℕ) → s ≡ scale i D → s * ((i + 1) * D) ≡ scale (i + 1) D
+step D i e = rw (scale-next i D, e) refl
+
+abbrev Inv-loop : tie.InvT-loop
+Inv-loop m divisor d product₀ i₀ product i = (i ≤ m) × (product ≡ scale i divisor) × (product ≤ limit)
+
+abbrev μ-loop : tie.MeasureT-loop
+μ-loop m divisor d product₀ i₀ product i = m - i
+
+loop-holds : tie.Need-loop-holds Inv-loop μ-loop
+loop-holds c = (omega arith, sym (scale-zero (c .args .divisor)), omega arith)
+
+add-i : tie.Need-add-i Inv-loop μ-loop
+add-i c = omega arith
+
+mul-product : tie.Need-mul-product Inv-loop μ-loop
+mul-product c = let i : c .before .loop .i + 1 ≤ 9 = omega arith in omega (arith, mul-le-mul i (c .before .before .pre .2))
+
+mul-product-2 : tie.Need-mul-product-2 Inv-loop μ-loop
+mul-product-2 c = let i : c .before .loop .i + 1 ≤ 9 = omega arith in omega (arith, mul-le-mul (c .before .loop .inv .2) (mul-le-mul i (c .before .before .pre .2)))
+
+returns : tie.Need-returns Inv-loop μ-loop
+returns c = let s = c .before .before .before in
+    let at = c .before .before .loop in
+    let e = step (s .args .divisor) (at .i) (at .inv .1) in
+    let l = scale-le (at .i + 1) (s .args .m) (s .args .divisor) (s .pre .1) (omega arith) in
+    sym (lt-leb (scale (s .args .m) (s .args .divisor)) limit (omega arith))
+
+loop-less : tie.Need-loop-less Inv-loop μ-loop
+loop-less c = omega arith
+
+loop-again : tie.Need-loop-again Inv-loop μ-loop
+loop-again c = let at = c .before .before .loop in (omega arith, step (c .before .before .before .args .divisor) (at .i) (at .inv .1), omega arith)
+
+returns-2 : tie.Need-returns-2 Inv-loop μ-loop
+returns-2 c = let s = c .before .before in
+    let at = c .before .loop in
+    let e : at .i ≡ s .args .m = omega arith in
+    let v : at .product ≡ scale (s .args .m) (s .args .divisor) = rw e at (at .inv .1) in
+    sym (le-leb (scale (s .args .m) (s .args .divisor)) limit (omega arith))
+
+pub scale-allowed-spec : {M : Type 1} → statement M
+scale-allowed-spec =
+    tie.close
+    (tie.spec
+    Inv-loop
+    μ-loop
+    loop-holds
+    add-i
+    mul-product
+    mul-product-2
+    returns
+    loop-less
+    loop-again
+    returns-2)

@@ -1,0 +1,217 @@
+// Where a point lies: its cell, the order of the axes and the four weights; or the refusal that it meets.
+ghost use mathlib.Core.Path.{_≡_};
+ghost use mathlib.Core.Bool.{true};
+ghost use Prim.Native.Nat.{_+_, _≤_};
+ghost use lib.Dec.{leb};
+ghost use Rattle.unit.specs.Unit.{netOf, hasNet, hasBlock};
+ghost use Rattle.placing.specs.Placing.{onAxes, sizes, ranked, placing, insideOn, inside};
+ghost use Rattle.placing.specs.Place.{scale, limit, unitChecks, pointChecks, placeAnswer};
+use shape::Counts;
+use unit::Checked;
+use unit::Refusal;
+use unit::Unit;
+
+// k on the three axes, the axes in the order p, r, s, and the weights, whose sum is D.
+pub struct Placing {
+    pub k1: u32,
+    pub k2: u32,
+    pub k3: u32,
+    pub p: u8,
+    pub r: u8,
+    pub s: u8,
+    pub l0: u32,
+    pub l1: u32,
+    pub l2: u32,
+    pub l3: u32,
+}
+
+// What a placing call answers.
+pub enum PlacingAnswer {
+    Placed(Placing),
+    Refused(Refusal),
+}
+
+// The axes p, r, s and their remainders.
+struct Ranking {
+    p: u8,
+    r: u8,
+    s: u8,
+    up: u32,
+    ur: u32,
+    us: u32,
+}
+
+// The axes with the largest remainder first, ties by the lower axis.
+fn rank(u1: u32, u2: u32, u3: u32) -> Ranking
+    ensures { λ t. ⌜ t ≡ ranked u1 u2 u3 ⌝ }
+{
+    if u2 <= u1 {
+        if u3 <= u2 {
+            return Ranking {
+                p: 1,
+                r: 2,
+                s: 3,
+                up: u1,
+                ur: u2,
+                us: u3,
+            };
+        }
+        if u3 <= u1 {
+            return Ranking {
+                p: 1,
+                r: 3,
+                s: 2,
+                up: u1,
+                ur: u3,
+                us: u2,
+            };
+        }
+        return Ranking {
+            p: 3,
+            r: 1,
+            s: 2,
+            up: u3,
+            ur: u1,
+            us: u2,
+        };
+    }
+    if u3 <= u1 {
+        return Ranking {
+            p: 2,
+            r: 1,
+            s: 3,
+            up: u2,
+            ur: u1,
+            us: u3,
+        };
+    }
+    if u3 <= u2 {
+        return Ranking {
+            p: 2,
+            r: 3,
+            s: 1,
+            up: u2,
+            ur: u3,
+            us: u1,
+        };
+    }
+    Ranking {
+        p: 3,
+        r: 2,
+        s: 1,
+        up: u3,
+        ur: u2,
+        us: u1,
+    }
+}
+
+// The placing of a point over a divisor that is not 0.
+fn placing_of(x: u32, y: u32, z: u32, divisor: u32) -> Placing
+    requires { ⌜ 1 ≤ divisor ⌝ }
+    ensures { λ q. ⌜ q ≡ placing x y z divisor ⌝ }
+{
+    let t = rank(x % divisor, y % divisor, z % divisor);
+    Placing {
+        k1: x / divisor,
+        k2: y / divisor,
+        k3: z / divisor,
+        p: t.p,
+        r: t.r,
+        s: t.s,
+        l0: divisor - t.up,
+        l1: t.up - t.ur,
+        l2: t.ur - t.us,
+        l3: t.us,
+    }
+}
+
+// Whether m!×D^m is at most 2^48. The product of the first factors is no larger than the whole one, so
+// the first that is above the limit decides, and none on the way overflows.
+fn scale_allowed(m: usize, divisor: u32) -> bool
+    requires { ⌜ (m ≤ 9) × (1 ≤ divisor) × (divisor ≤ 4096) ⌝ }
+    ensures { λ r. ⌜ r ≡ leb (scale m divisor) limit ⌝ }
+{
+    let d = divisor as u64;
+    let mut product: u64 = 1;
+    let mut i: u64 = 0;
+    while i < m as u64 {
+        i += 1;
+        product = product * (i * d);
+        if 281474976710656 < product {
+            return false;
+        }
+    }
+    true
+}
+
+// Whether a cell is inside on one axis, whose multiplicity is v.
+fn inside_on(v: u8, v4: u8, size: u16, k: u32) -> bool
+    requires { ⌜ 1 ≤ size ⌝ }
+    ensures { λ r. ⌜ r ≡ insideOn (v + v4) size k ⌝ }
+{
+    let k = k as usize;
+    if k + 1 < v as usize + v4 as usize {
+        return false;
+    }
+    k < size as usize
+}
+
+// Whether a cell is inside.
+fn is_inside(unit: Unit, k1: u32, k2: u32, k3: u32) -> bool
+    requires { ⌜ hasBlock unit ≡ true ⌝ }
+    ensures { λ r. ⌜ r ≡ inside (netOf unit) (sizes unit) (onAxes k1 k2 k3) ⌝ }
+{
+    if !inside_on(unit.v1, unit.v4, unit.n1, k1) {
+        return false;
+    }
+    if !inside_on(unit.v2, unit.v4, unit.n2, k2) {
+        return false;
+    }
+    inside_on(unit.v3, unit.v4, unit.n3, k3)
+}
+
+// Checks 21 and 22.
+pub fn check_unit(unit: Unit) -> Checked
+    ensures { λ r. ⌜ r ≡ unitChecks unit ⌝ }
+{
+    if !unit.holds_net() {
+        return Checked::stop(21, 0);
+    }
+    if !unit.holds_block() {
+        return Checked::stop(22, 0);
+    }
+    Checked::Passed
+}
+
+// Checks 10, 11 and 12.
+fn check_point(unit: Unit, x: u32, y: u32, z: u32, divisor: u32) -> Checked
+    requires { ⌜ (hasNet unit ≡ true) × (hasBlock unit ≡ true) ⌝ }
+    ensures { λ r. ⌜ r ≡ pointChecks unit x y z divisor ⌝ }
+{
+    if divisor == 0 {
+        return Checked::stop(10, 0);
+    }
+    if Unit::DIVISOR < divisor {
+        return Checked::stop(10, 0);
+    }
+    if !scale_allowed(shape::degree_of(Counts::of_unit(unit)), divisor) {
+        return Checked::stop(11, 0);
+    }
+    if !is_inside(unit, x / divisor, y / divisor, z / divisor) {
+        return Checked::stop(12, 0);
+    }
+    Checked::Passed
+}
+
+// The placing of the point X, Y, Z over a divisor, or the first refusal that applies of 21, 22, 10, 11, 12.
+pub fn place(unit: Unit, x: u32, y: u32, z: u32, divisor: u32) -> PlacingAnswer
+    ensures { λ r. ⌜ r ≡ placeAnswer unit x y z divisor ⌝ }
+{
+    if let Checked::Stopped(refusal) = check_unit(unit) {
+        return PlacingAnswer::Refused(refusal);
+    }
+    if let Checked::Stopped(refusal) = check_point(unit, x, y, z, divisor) {
+        return PlacingAnswer::Refused(refusal);
+    }
+    PlacingAnswer::Placed(placing_of(x, y, z, divisor))
+}

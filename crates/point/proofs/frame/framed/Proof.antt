@@ -1,0 +1,90 @@
+use mathlib.Core.Path.{_∙_, _≡_, ap, refl}
+use Prim.Native.Nat.{_≤_}
+use borrow.Author.Needs.{needs}
+use Rattle.spline.specs.Multiplicities.{Multiplicities}
+use Rattle.spline.specs.Place.{a1, a2}
+use Rattle.unit.specs.Unit.{netOf}
+use Rattle.shape.specs.Shape.{shapeOf}
+use Rattle.placing.proofs.Sizes.{Shaped, unit-shaped}
+use Rattle.point.proofs.frame.framed.Statement.{statement}
+use Rattle.point.proofs.frame.framed.Tie as tie
+
+module _ (c : tie.After-shape-of) where
+  abbrev v : Multiplicities
+  v = netOf (c .before .before .args .unit)
+
+  shape-is : c .shape-of .result ≡ shapeOf v
+  shape-is = c .shape-of .ensures .0 ∙ ap shapeOf (c .before .of-unit .ensures)
+
+  shaped : Shaped v
+  shaped = unit-shaped (c .before .before .args .unit) (c .before .before .pre)
+
+  widths-most : (c .shape-of .result .w1 ≤ 91) × (c .shape-of .result .w2 ≤ 91)
+  widths-most = rw shape-is (shaped .width-most a1, shaped .width-most a2)
+
+of-unit-requires : tie.Need-of-unit-requires
+of-unit-requires c κs = search needs
+
+shape-of-requires : tie.Need-shape-of-requires
+shape-of-requires c κs = search needs
+
+factorial-of-requires : tie.Need-factorial-of-requires
+factorial-of-requires c κs = rw (shape-is c) (shaped c .degree-most)
+
+extent-of-requires : tie.Need-extent-of-requires
+extent-of-requires c κs = search needs
+
+extent-of-requires-2 : tie.Need-extent-of-requires-2
+extent-of-requires-2 c κs = search needs
+
+extent-of-requires-3 : tie.Need-extent-of-requires-3
+extent-of-requires-3 c κs = search needs
+
+cast-t12 : tie.Need-cast-t12
+cast-t12 c = search needs
+
+cast-t13 : tie.Need-cast-t13
+cast-t13 c = search needs
+
+cast-t14 : tie.Need-cast-t14
+cast-t14 c = search needs
+
+cast-t15 : tie.Need-cast-t15
+cast-t15 c = search needs
+
+cast-t16 : tie.Need-cast-t16
+cast-t16 c = search needs
+
+step-on-requires : tie.Need-step-on-requires
+step-on-requires c κs = widths-most (c .before .before .before .before .before .before .before .before .before)
+
+step-on-requires-2 : tie.Need-step-on-requires-2
+step-on-requires-2 c κs = widths-most (c .before .before .before .before .before .before .before .before .before .before)
+
+step-on-requires-3 : tie.Need-step-on-requires-3
+step-on-requires-3 c κs = widths-most (c .before .before .before .before .before .before .before .before .before .before .before)
+
+returns : tie.Need-returns
+returns c =
+    let s = c .before .before .before .before .before .before .before .before .before .before .before .before in
+    rw (c .before .before .step-on .ensures, c .before .step-on2 .ensures, c .step-on3 .ensures, c .before .before .before .before .before .before .before .before .before .before .before .factorial-of .ensures, shape-is s, c .before .before .before .before .before .before .before .before .before .before .extent-of .ensures, c .before .before .before .before .before .before .before .before .before .extent-of2 .ensures, c .before .before .before .before .before .before .before .before .extent-of3 .ensures) refl
+
+pub framed-spec : {M : Type 1} → statement M
+framed-spec =
+    tie.close
+    (tie.spec
+    of-unit-requires
+    shape-of-requires
+    factorial-of-requires
+    extent-of-requires
+    extent-of-requires-2
+    extent-of-requires-3
+    cast-t12
+    cast-t13
+    cast-t14
+    cast-t15
+    cast-t16
+    step-on-requires
+    step-on-requires-2
+    step-on-requires-3
+    returns)

@@ -1,0 +1,84 @@
+/* A unit from C: a net is built and inspected, a field file loaded, points answered. Run with the path of a field file. */
+#include "torskavel.h"
+
+#include <inttypes.h>
+#include <stdio.h>
+
+/* The order 1, 3, 2 has the box 13, 13, 13. */
+#define WIDTH 13
+#define PLACES (WIDTH * WIDTH * WIDTH)
+
+static uint32_t net[PLACES], defined[PLACES];
+static int32_t work[PLACES];
+static int16_t corrections[TORSKAVEL_ENTRIES];
+static uint16_t uncertainties[TORSKAVEL_ENTRIES];
+
+/* Whether the call was refused; then the line ends with the refusal. */
+static bool refused(uint32_t number, size_t place) {
+    if (number != 0) printf("refused %" PRIu32 ", place %zu\n", number, place);
+    return number != 0;
+}
+
+static struct torskavel_unit build(struct torskavel_unit unit, const uint8_t *order, size_t length) {
+    printf("build");
+    for (size_t i = 0; i < length; i++) printf(" %d", order[i]);
+    printf(": ");
+    struct torskavel_unit_answer a = torskavel_build(unit, order, length, net, PLACES, work, PLACES);
+    if (!refused(a.number, a.place)) {
+        printf("multiplicities %d %d %d %d, ", a.unit.v1, a.unit.v2, a.unit.v3, a.unit.v4);
+        printf("number %" PRIu32 " at (6, 6, 6)\n", net[6 + WIDTH * (6 + WIDTH * 6)]);
+    }
+    return a.unit;
+}
+
+static struct torskavel_unit inspect(struct torskavel_unit unit) {
+    printf("inspect 2 2 2 1: ");
+    struct torskavel_unit_answer a =
+        torskavel_inspect(unit, 2, 2, 2, 1, net, PLACES, defined, PLACES, work, PLACES);
+    if (!refused(a.number, a.place)) printf("passed\n");
+    return a.unit;
+}
+
+static struct torskavel_unit load(struct torskavel_unit unit, const char *path) {
+    static uint8_t file[6 + 4 * TORSKAVEL_ENTRIES + 1]; /* one byte more, so that too long a file is seen */
+    size_t length = 0;
+    FILE *in = fopen(path, "rb");
+    if (in) {
+        length = fread(file, 1, sizeof file, in);
+        fclose(in);
+    }
+    printf("load %zu bytes: ", length);
+    struct torskavel_unit_answer a =
+        torskavel_load(unit, file, length, corrections, TORSKAVEL_ENTRIES, uncertainties, TORSKAVEL_ENTRIES);
+    if (!refused(a.number, a.place)) printf("block %d %d %d\n", a.unit.n1, a.unit.n2, a.unit.n3);
+    return a.unit;
+}
+
+static void answer(struct torskavel_unit unit, uint32_t x, uint32_t y, uint32_t z, uint32_t divisor) {
+    printf("point (%" PRIu32 ", %" PRIu32 ", %" PRIu32 ")/%" PRIu32 ": ", x, y, z, divisor);
+    struct torskavel_point_answer a = torskavel_answer(
+        unit, net, PLACES, corrections, TORSKAVEL_ENTRIES, uncertainties, TORSKAVEL_ENTRIES, x, y, z, divisor);
+    if (refused(a.number, a.place)) return;
+    printf("shift %" PRId64 "/%" PRIu64 ", ", a.numerator, a.denominator);
+    printf("uncertainty %" PRIu64 "/%" PRIu64 "\n", a.uncertainty, a.denominator);
+}
+
+int main(int count, char **words) {
+    if (count != 2) {
+        fprintf(stderr, "usage: %s FIELD-FILE\n", words[0]);
+        return 1;
+    }
+    struct torskavel_unit unit = torskavel_empty_unit();
+    answer(unit, 5, 5, 5, 2);
+    unit = build(unit, (const uint8_t[]){1, 5}, 2);
+    unit = build(unit, (const uint8_t[]){1, 3, 2}, 3);
+    unit = load(unit, words[1]);
+    answer(unit, 5, 5, 5, 2);
+    answer(unit, 7, 5, 5, 2);
+    answer(unit, 3, 5, 5, 2);
+    unit = inspect(unit);
+    net[0] = 1;
+    unit = inspect(unit);
+    answer(unit, 4, 4, 4, 2);
+    return 0;
+}

@@ -1,0 +1,89 @@
+//! A unit from Rust: a net is built and inspected, a field file loaded, points answered. Run with the path of a field file.
+
+#[path = "../../include/torskavel.rs"]
+mod torskavel;
+
+use torskavel::Unit;
+
+/// The order 1, 3, 2 has the box 13, 13, 13.
+const WIDTH: usize = 13;
+const PLACES: usize = WIDTH * WIDTH * WIDTH;
+const ENTRIES: usize = 4096;
+
+/// The slices that the unit's numbers stand in.
+struct Slices {
+    net: Vec<u32>,
+    defined: Vec<u32>,
+    work: Vec<i32>,
+    corrections: Vec<i16>,
+    uncertainties: Vec<u16>,
+}
+
+impl Slices {
+    fn new() -> Slices {
+        Slices {
+            net: vec![0; PLACES],
+            defined: vec![0; PLACES],
+            work: vec![0; PLACES],
+            corrections: vec![0; ENTRIES],
+            uncertainties: vec![0; ENTRIES],
+        }
+    }
+}
+
+/// Prints what the call gave, or its refusal.
+fn report(call: &str, number: u32, place: usize, given: String) {
+    match number {
+        0 => println!("{call}: {given}"),
+        _ => println!("{call}: refused {number}, place {place}"),
+    }
+}
+
+fn build(unit: Unit, order: &[u8], slices: &mut Slices) -> Unit {
+    let a = torskavel::build(unit, order, &mut slices.net, &mut slices.work);
+    let Unit { v1, v2, v3, v4, .. } = a.unit;
+    let number = slices.net[6 + WIDTH * (6 + WIDTH * 6)];
+    let call: String = order.iter().map(|byte| format!(" {byte}")).collect();
+    let given = format!("multiplicities {v1} {v2} {v3} {v4}, number {number} at (6, 6, 6)");
+    report(&format!("build{call}"), a.number, a.place, given);
+    a.unit
+}
+
+fn inspect(unit: Unit, slices: &mut Slices) -> Unit {
+    let a = torskavel::inspect(unit, [2, 2, 2, 1], &slices.net, &mut slices.defined, &mut slices.work);
+    report("inspect 2 2 2 1", a.number, a.place, "passed".to_string());
+    a.unit
+}
+
+fn load(unit: Unit, path: &str, slices: &mut Slices) -> Unit {
+    let file = std::fs::read(path).unwrap_or_default();
+    let a = torskavel::load(unit, &file, &mut slices.corrections, &mut slices.uncertainties);
+    let Unit { n1, n2, n3, .. } = a.unit;
+    report(&format!("load {} bytes", file.len()), a.number, a.place, format!("block {n1} {n2} {n3}"));
+    a.unit
+}
+
+fn answer(unit: Unit, [x, y, z]: [u32; 3], divisor: u32, slices: &Slices) {
+    let Slices { net, corrections, uncertainties, .. } = slices;
+    let a = torskavel::answer(unit, net, corrections, uncertainties, [x, y, z], divisor);
+    let (n, u, over) = (a.numerator, a.uncertainty, a.denominator);
+    let call = format!("point ({x}, {y}, {z})/{divisor}");
+    report(&call, a.number, a.place, format!("shift {n}/{over}, uncertainty {u}/{over}"));
+}
+
+fn main() {
+    let path = std::env::args().nth(1).expect("the path of a field file");
+    let mut slices = Slices::new();
+    let mut unit = torskavel::empty_unit();
+    answer(unit, [5, 5, 5], 2, &slices);
+    unit = build(unit, &[1, 5], &mut slices);
+    unit = build(unit, &[1, 3, 2], &mut slices);
+    unit = load(unit, &path, &mut slices);
+    for point in [[5, 5, 5], [7, 5, 5], [3, 5, 5]] {
+        answer(unit, point, 2, &slices);
+    }
+    unit = inspect(unit, &mut slices);
+    slices.net[0] = 1;
+    unit = inspect(unit, &mut slices);
+    answer(unit, [4, 4, 4], 2, &slices);
+}
