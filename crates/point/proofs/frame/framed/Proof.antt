@@ -1,5 +1,6 @@
 use mathlib.Core.Path.{_∙_, _≡_, ap, refl}
 use Prim.Native.Nat.{_≤_}
+use native.Mathlib.Omega.{arith}
 use borrow.Author.Needs.{needs}
 use Rattle.spline.specs.Multiplicities.{Multiplicities}
 use Rattle.spline.specs.Place.{a1, a2}
@@ -19,6 +20,9 @@ module _ (c : tie.After-shape-of) where
   shaped : Shaped v
   shaped = unit-shaped (c .before .before .args .unit) (c .before .before .pre)
 
+  degree-most : c .shape-of .result .m ≤ 9
+  degree-most = rw shape-is (shaped .degree-most)
+
   widths-most : (c .shape-of .result .w1 ≤ 91) × (c .shape-of .result .w2 ≤ 91)
   widths-most = rw shape-is (shaped .width-most a1, shaped .width-most a2)
 
@@ -29,7 +33,7 @@ shape-of-requires : tie.Need-shape-of-requires
 shape-of-requires c κs = search needs
 
 factorial-of-requires : tie.Need-factorial-of-requires
-factorial-of-requires c κs = rw (shape-is c) (shaped c .degree-most)
+factorial-of-requires c κs = omega (arith, degree-most c)
 
 extent-of-requires : tie.Need-extent-of-requires
 extent-of-requires c κs = search needs

@@ -1,0 +1,71 @@
+-- What a build for a listing has left: its answer taken apart, and a unit and a slice that can be listed.
+use mathlib.Core.List.{List, _++_, map}
+use mathlib.Core.Path.{_∙_, _≡_, ap, refl, sym}
+use Prim.Native.Nat.{_<_, _≤_, ℕ}
+use native.Mathlib.Omega.{arith}
+use lib.ListN.{List·getD-append, drop, getD, length, length-append, length-map}
+use Rattle.spline.proofs.Box.{length-netList, netList-at}
+use Rattle.spline.proofs.Multiplicities.{order-degree, order-positive}
+use Rattle.spline.specs.Box.{netList, placeOf}
+use Rattle.spline.specs.Build.{direction, orderNet}
+use Rattle.spline.specs.Multiplicities.{orderMultiplicities}
+use Rattle.unit.specs.Checks.{passedOr}
+use Rattle.unit.specs.Unit.{emptyUnit, withNet}
+use Rattle.unit.specs.declared.Checked.the-variants.{Passed, Stopped}
+use Rattle.unit.specs.declared.Checked.{Checked}
+use Rattle.unit.specs.declared.Refusal.{Refusal}
+use Rattle.unit.specs.declared.Unit.{Unit}
+use Rattle.unit.specs.declared.UnitAnswer.the-variants.{Changed, Refused}
+use Rattle.net.proofs.Accepted.{BuildAccepted, build-accepted}
+use Rattle.net.proofs.Orders.{order-at-most}
+use Rattle.net.specs.Build.{buildNet}
+use Rattle.net.specs.Order.{buildChecks, orderNumber, orderPlaces, orderWidth}
+use Rattle.listing.proofs.Printed.{net-text-cong, printed-made}
+use Rattle.listing.specs.Fit.{Listed}
+use Rattle.listing.specs.Print.{netText, printedOrder}
+
+-- ---- the answer
+pub record Made (k : Checked) (w u : Unit) : Type 0 where
+  pub passed : k ≡ Passed
+  pub unit : u ≡ w
+
+pub answer-made : (k : Checked) (w u : Unit) → passedOr k (Changed w) Refused ≡ Changed u → Made k w u
+answer-made Passed w u h = record { passed = refl; unit = cc }
+answer-made (Stopped r) w u h = let z : _≡_ {A = ℕ} 0 1 = cc in absurd (omega arith)
+
+pub answer-refused : (k : Checked) (w : Unit) (r : Refusal) → passedOr k (Changed w) Refused ≡ Refused r → k ≡ Stopped r
+answer-refused Passed w r h = let z : _≡_ {A = ℕ} 0 1 = cc in absurd (omega arith)
+answer-refused (Stopped q) w r h = cc
+
+-- ---- the slice and the unit
+module _ (o : List ℕ) (passed : buildChecks o 9261 9261 ≡ Passed) (before net : List ℕ) (long : length before ≡ 9261) (built : net ≡ buildNet o before 9261) where
+  taken : BuildAccepted o 9261 9261
+  taken = build-accepted o 9261 9261 passed
+
+  holds : net ≡ netList (orderWidth o) (orderNet o) ++ drop (orderPlaces o) before
+  unfolding buildNet
+  holds = built ∙ simp (long, passed)
+
+  number-at : (i : ℕ) → i < orderPlaces o → getD net i 0 ≡ orderNumber o i
+  number-at i h =
+      ap (λ (s : List ℕ). getD s i 0) holds
+      ∙ List·getD-append (netList (orderWidth o) (orderNet o)) _ 0 i (omega (arith, length-netList (orderWidth o) (orderNet o)))
+      ∙ netList-at (orderWidth o) (orderNet o) i h
+
+  pub listed : (room : ℕ) → 148198 ≤ room → Listed (withNet emptyUnit (orderMultiplicities o)) net room
+  listed room h =
+      let p = order-positive (map direction o) in
+      let t = taken in
+      record {
+        least1 = p .p1;
+        least2 = p .p2;
+        least3 = p .p3;
+        least4 = p .p4;
+        most = omega (arith, order-degree (map direction o), length-map o direction, t .good .short);
+        held = omega (arith, ap length holds, length-append (netList (orderWidth o) (orderNet o)) (drop (orderPlaces o) before), length-netList (orderWidth o) (orderNet o));
+        small = λ i l. omega (arith, number-at i l, order-at-most o (t .good .short) (placeOf (orderWidth o) i));
+        fits = omega (arith, t .net-room);
+      }
+
+  pub listed-text : netText (orderMultiplicities o) (λ i. getD net i 0) ≡ printedOrder o
+  listed-text = net-text-cong (orderMultiplicities o) (λ i. getD net i 0) (orderNumber o) number-at ∙ sym (printed-made o passed)

@@ -1,0 +1,4 @@
+pub mod Texts
+pub mod Typed
+pub mod Printed
+pub mod Built

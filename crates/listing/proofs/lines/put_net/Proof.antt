@@ -1,0 +1,93 @@
+use mathlib.Core.List.{List}
+use mathlib.Core.Path.{_∙_, _≡_, ap, subst, sym}
+use Prim.Native.Nat.{_*_, _+_, _<_, _≤_, ℕ}
+use native.Mathlib.Omega.{arith}
+use borrow.Author.Needs.{needs}
+use lib.ListN.{getD, length}
+use denote.Ref.{now}
+use Rattle.spline.specs.Box.{places, width}
+use Rattle.shape.proofs.Shapes.{limited-boxed}
+use Rattle.shape.specs.Shape.{Boxed, shapeOf}
+use Rattle.shape.specs.declared.Counts.{Counts}
+use Rattle.shape.specs.declared.Shape.{Shape}
+use Rattle.unit.specs.Unit.{netOf}
+use Rattle.listing.proofs.Printed.{net-lines}
+use Rattle.listing.proofs.Texts.{put-length, put-then}
+use Rattle.listing.proofs.lines.put_net.Statement.{statement}
+use Rattle.listing.specs.Text.{Put}
+use Rattle.listing.proofs.lines.put_net.Tie as tie
+
+-- once the shape is computed
+module _ (c : tie.After-shape-of) where
+  abbrev start : tie.Start
+  start = c .before .before .before .before
+
+  abbrev found : Shape
+  found = c .shape-of .result
+
+  shape-is : found ≡ shapeOf (netOf (start .args .unit))
+  shape-is = c .shape-of .ensures .0 ∙ ap shapeOf (c .before .of-unit .ensures)
+
+  boxed : Boxed found
+  boxed =
+      let u = start .args .unit in
+      let l = start .pre in
+      let k : Counts = record { v1 = u .v1; v2 = u .v2; v3 = u .v3; v4 = u .v4 } in
+      subst Boxed (sym shape-is) (limited-boxed k (record { least1 = l .least1; least2 = l .least2; least3 = l .least3; least4 = l .least4; most = l .most }))
+
+  same-places : found .w1 * found .w2 * found .w3 ≡ places (width (netOf (start .args .unit)))
+  same-places = ap (λ (s : Shape). s .w1 * s .w2 * s .w3) shape-is
+
+  room : 22 + 16 * (found .w1 * found .w2 * found .w3) ≤ length (now (start .args .out))
+  room = subst (λ (n : ℕ). 22 + 16 * n ≤ length (now (start .args .out))) (sym same-places) (start .pre .fits)
+
+of-unit-requires : tie.Need-of-unit-requires
+of-unit-requires c κs = search needs
+
+shape-of-requires : tie.Need-shape-of-requires
+shape-of-requires c κs = search needs
+
+put-header-requires : tie.Need-put-header-requires
+put-header-requires c κs =
+    let b = boxed (c .before) in
+    (omega (arith, b .most1), omega (arith, b .most2), omega (arith, b .most3), omega (arith, b .degree-most), omega (arith, room (c .before)))
+
+put-places-requires : tie.Need-put-places-requires
+put-places-requires c κs =
+    let g = c .before .before .before .before .before in
+    let s = start g in
+    let h = c .before .before .before .put-header .ensures in
+    record {
+      most1 = boxed g .most1;
+      most2 = boxed g .most2;
+      most3 = boxed g .most3;
+      held = subst (λ (n : ℕ). n ≤ length (now (s .args .net))) (sym (same-places g)) (s .pre .held);
+      small = λ i l. s .pre .small i (subst (λ (n : ℕ). i < n) (same-places g) l);
+      fits = omega (arith, room g, h .1, put-length (h .0));
+    }
+
+same-length : tie.Need-same-length
+same-length c = search needs
+
+returns : tie.Need-returns
+returns c =
+    let g = c .before .before .before .before .before .before .before .before in
+    let s = start g in
+    let h = c .before .before .before .before .before .before .put-header .ensures in
+    let p = c .before .before .put-places in (
+      subst (λ (t : List ℕ). Put t (now (s .args .out)) (p .last .0) 0 (p .result))
+          (net-lines (netOf (s .args .unit)) (λ (i : ℕ). getD (now (s .args .net)) i 0) (found g) (shape-is g))
+          (put-then (h .0) (p .ensures .0)),
+      omega (arith, p .ensures .1, put-length (h .0)),
+    )
+
+pub put-net-spec : {M : Type 1} → statement M
+put-net-spec =
+    tie.close
+    (tie.spec
+    of-unit-requires
+    shape-of-requires
+    put-header-requires
+    put-places-requires
+    same-length
+    returns)

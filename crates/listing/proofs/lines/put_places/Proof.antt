@@ -1,0 +1,131 @@
+use mathlib.Core.List.{List}
+use mathlib.Core.Path.{subst}
+use Prim.Native.Nat.{_%_, _*_, _+_, _-_, _/_, _<_, _≤_, ℕ}
+use native.Mathlib.Nat.{le-antisymm, mul-le-mul}
+use native.Mathlib.Omega.{arith}
+use lib.ListN.{getD}
+use denote.Ref.{now}
+use Rattle.sums.proofs.Places.{box-le, place-in}
+use Rattle.listing.proofs.Texts.{put-joined-next, put-joined-none, put-length}
+use Rattle.listing.proofs.lines.put_places.Statement.{statement}
+use Rattle.listing.specs.Print.{placeText}
+use Rattle.listing.specs.Text.{Put, joined}
+use Rattle.listing.proofs.lines.put_places.Tie as tie
+
+-- the line of an index
+abbrev line : List ℕ → ℕ → ℕ → ℕ → List ℕ
+line net w1 w2 i = placeText (i % w1) (i / w1 % w2) (i / w1 / w2) (getD net i 0)
+
+abbrev Inv-loop : tie.InvT-loop
+Inv-loop out₀ start net w1 w2 w3 n at₀ i₀ out at i = (i ≤ n) × Put (joined (line net w1 w2) i) out₀ out start at × (at ≤ start + 16 * i)
+
+abbrev μ-loop : tie.MeasureT-loop
+μ-loop out₀ start net w1 w2 w3 n at₀ i₀ out at i = n - i
+
+most : (s : tie.Start Inv-loop μ-loop) → s .args .w1 * s .args .w2 * s .args .w3 ≤ 753571
+most s = box-le (s .pre .most1) (s .pre .most2) (s .pre .most3)
+
+-- a turn's index, and its place
+module _ (c : tie.In-loop Inv-loop μ-loop) where
+  abbrev start : tie.Start Inv-loop μ-loop
+  start = c .before .before .before .before
+
+  abbrev index : ℕ
+  index = c .before .loop .i
+
+  inside : index < start .args .w1 * start .args .w2 * start .args .w3
+  inside = omega arith
+
+  within : (index % start .args .w1 < start .args .w1) × (index / start .args .w1 % start .args .w2 < start .args .w2) × (index / start .args .w1 / start .args .w2 < start .args .w3)
+  within = place-in (start .args .w1) (start .args .w2) (start .args .w3) index inside
+
+mul-n : tie.Need-mul-n Inv-loop μ-loop
+mul-n c =
+    let s = c .before .before in
+    let p : s .args .w1 * s .args .w2 ≤ 8281 = mul-le-mul (s .pre .most1) (s .pre .most2) in
+    omega arith
+
+mul-n-2 : tie.Need-mul-n-2 Inv-loop μ-loop
+mul-n-2 c = omega (arith, most (c .before .before))
+
+loop-holds : tie.Need-loop-holds Inv-loop μ-loop
+loop-holds c =
+    let a = c .before .before .args in
+    (omega arith, put-joined-none (line (now (a .net)) (a .w1) (a .w2)) (now (a .out)) (a .start), omega arith)
+
+div-q : tie.Need-div-q Inv-loop μ-loop
+div-q c = omega (arith, within c .0)
+
+rem-put-place : tie.Need-rem-put-place Inv-loop μ-loop
+rem-put-place c = omega (arith, within (c .before) .0)
+
+rem-put-place-2 : tie.Need-rem-put-place-2 Inv-loop μ-loop
+rem-put-place-2 c = omega (arith, within (c .before) .1)
+
+div-put-place : tie.Need-div-put-place Inv-loop μ-loop
+div-put-place c = omega (arith, within (c .before) .1)
+
+mul-put-place : tie.Need-mul-put-place Inv-loop μ-loop
+mul-put-place c = omega (arith, inside (c .before), most (c .before .before .before .before .before))
+
+shared-slice-read-put-place : tie.Need-shared-slice-read-put-place Inv-loop μ-loop
+shared-slice-read-put-place c = omega (arith, inside (c .before .before), c .before .before .before .before .before .before .pre .held)
+
+put-place-requires : tie.Need-put-place-requires Inv-loop μ-loop
+put-place-requires c κs =
+    let s = c .before .before .before .before .before .before in
+    let l = c .before .before .before .loop in
+    let w = within (c .before .before) in (
+      omega (arith, w .0, s .pre .most1),
+      omega (arith, w .1, s .pre .most2),
+      omega (arith, w .2, s .pre .most3),
+      s .pre .small (l .i) (inside (c .before .before)),
+      omega (arith, l .inv .2, inside (c .before .before), put-length (l .inv .1), s .pre .fits),
+    )
+
+add-i : tie.Need-add-i Inv-loop μ-loop
+add-i c = omega (arith, inside (c .before .before .before .before .before), most (c .before .before .before .before .before .before .before .before .before))
+
+loop-less : tie.Need-loop-less Inv-loop μ-loop
+loop-less c = omega (arith, inside (c .before .before .before .before .before))
+
+loop-again : tie.Need-loop-again Inv-loop μ-loop
+loop-again c =
+    let a = c .before .before .before .before .before .before .before .before .before .args in
+    let l = c .before .before .before .before .before .before .loop in
+    let p = c .before .before .put-place .ensures in
+    (omega (arith, inside (c .before .before .before .before .before)), put-joined-next (line (now (a .net)) (a .w1) (a .w2)) (l .i) (l .inv .1) (p .0), omega (arith, l .inv .2, p .1))
+
+same-length : tie.Need-same-length Inv-loop μ-loop
+same-length c = put-length (c .before .loop .inv .1)
+
+returns : tie.Need-returns Inv-loop μ-loop
+returns c =
+    let s = c .before .before .before .before in
+    let a = s .args in
+    let l = c .before .loop in (
+      subst (λ (n : ℕ). Put (joined (line (now (a .net)) (a .w1) (a .w2)) n) (now (a .out)) (l .out) (a .start) (l .at)) (le-antisymm (l .inv .0) (c .loop-test .left)) (l .inv .1),
+      omega (arith, l .inv .0, l .inv .2, s .pre .fits),
+    )
+
+pub put-places-spec : {M : Type 1} → statement M
+put-places-spec =
+    tie.close
+    (tie.spec
+    Inv-loop
+    μ-loop
+    mul-n
+    mul-n-2
+    loop-holds
+    div-q
+    rem-put-place
+    rem-put-place-2
+    div-put-place
+    mul-put-place
+    shared-slice-read-put-place
+    put-place-requires
+    add-i
+    loop-less
+    loop-again
+    same-length
+    returns)
