@@ -2,11 +2,9 @@
 use lib.IntN.{pos}
 use Rattle.unit.specs.declared.Unit.{Unit}
 use Rattle.unit.specs.declared.UnitAnswer.{UnitAnswer}
-use Rattle.unit.specs.declared.UnitAnswer.the-variants as units
 use Rattle.point.specs.declared.PointAnswer.{PointAnswer}
-use Rattle.point.specs.declared.PointAnswer.the-variants as points
-use Rattle.c_api.specs.declared.FlatUnitAnswer.{FlatUnitAnswer}
 use Rattle.c_api.specs.declared.FlatPointAnswer.{FlatPointAnswer}
+use Rattle.c_api.specs.declared.FlatUnitAnswer.{FlatUnitAnswer}
 
 -- the answer of a call that was handed the unit `before`: "a refusal leaves the unit record .. unchanged"
 abbrev pub flatUnit : Unit → UnitAnswer → FlatUnitAnswer

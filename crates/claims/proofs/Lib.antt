@@ -6,3 +6,4 @@ pub mod OneDirection
 pub mod WindowShares
 pub mod ConstantBlock
 pub mod Figures
+pub mod Refusals

@@ -1,3 +1,4 @@
 pub mod Nets
 pub mod Points
 pub mod Figures
+pub mod Refusals

@@ -11,8 +11,8 @@ use Rattle.spline.specs.Build.{direction, orderNet}
 use Rattle.spline.specs.Multiplicities.{orderMultiplicities}
 use Rattle.unit.specs.Checks.{passedOr}
 use Rattle.unit.specs.Unit.{emptyUnit, withNet}
-use Rattle.unit.specs.declared.Checked.the-variants.{Passed, Stopped}
 use Rattle.unit.specs.declared.Checked.{Checked}
+use Rattle.unit.specs.declared.Checked.the-variants.{Passed, Stopped}
 use Rattle.unit.specs.declared.Refusal.{Refusal}
 use Rattle.unit.specs.declared.Unit.{Unit}
 use Rattle.unit.specs.declared.UnitAnswer.the-variants.{Changed, Refused}

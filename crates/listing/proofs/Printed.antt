@@ -11,11 +11,11 @@ use Rattle.spline.proofs.Cases.{by-order}
 use Rattle.spline.specs.Box.{places, width}
 use Rattle.spline.specs.Multiplicities.{Multiplicities, degree, orderMultiplicities}
 use Rattle.spline.specs.Place.{a1, a2, a3}
-use Rattle.shape.specs.Shape.{shapeOf}
-use Rattle.shape.specs.declared.Shape.{Shape}
 use Rattle.unit.specs.Checks.{refusal}
 use Rattle.unit.specs.declared.Checked.the-variants.{Passed, Stopped}
 use Rattle.unit.specs.declared.Refusal.{Refusal}
+use Rattle.shape.specs.Shape.{shapeOf}
+use Rattle.shape.specs.declared.Shape.{Shape}
 use Rattle.net.specs.Order.{buildChecks, orderChecks, orderNumber}
 use Rattle.listing.proofs.Typed.{order-bounds, order-length}
 use Rattle.listing.specs.Order.{digitNumber, orderLength, typedOrder}

@@ -1,6 +1,6 @@
 -- What fits the lines: the widths, numbers and slices that the code writes lines for.
-use Prim.Native.Nat.{ℕ, _*_, _+_, _<_, _≤_}
 use mathlib.Core.List.{List}
+use Prim.Native.Nat.{_*_, _+_, _<_, _≤_, ℕ}
 use lib.ListN.{getD, length}
 use Rattle.spline.specs.Box.{places, width}
 use Rattle.unit.specs.Unit.{netOf}

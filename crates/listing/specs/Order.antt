@@ -1,7 +1,7 @@
 -- An order as it is typed.
 use mathlib.Core.Bool.{_&&_, cond}
 use mathlib.Core.List.{List, map}
-use Prim.Native.Nat.{ℕ, _-_}
+use Prim.Native.Nat.{_-_, ℕ}
 use lib.Dec.{eqb, leb}
 use lib.ListN.{getD, length, take}
 

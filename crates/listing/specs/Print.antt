@@ -1,7 +1,7 @@
 -- What program `shares` prints: document 01, section "Hand-computed figures".
 use mathlib.Core.Bool.{cond}
 use mathlib.Core.List.{List, [], _++_, _∷_}
-use Prim.Native.Nat.{ℕ, _%_, _/_}
+use Prim.Native.Nat.{_%_, _/_, ℕ}
 use lib.Dec.{eqb}
 use Rattle.spline.specs.Box.{places, width}
 use Rattle.spline.specs.Multiplicities.{Multiplicities, degree, orderMultiplicities}

@@ -1,10 +1,10 @@
 use mathlib.Core.Path.{ap, sym}
+use borrow.Author.Needs.{needs}
+use mir.Facts.{toZ-ofZ}
 use mir.Syntax.{w64}
 use mir.Val.{SFits}
-use mir.Facts.{toZ-ofZ}
-use borrow.Author.Needs.{needs}
-use Rattle.c_api.specs.Flat.{flatPoint}
 use Rattle.c_api.proofs.flat_point.Statement.{statement}
+use Rattle.c_api.specs.Flat.{flatPoint}
 use Rattle.c_api.proofs.flat_point.Tie as tie
 
 enum-known-answer : tie.Need-enum-known-answer

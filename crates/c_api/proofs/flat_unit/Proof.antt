@@ -1,7 +1,7 @@
 use mathlib.Core.Path.{ap, sym}
 use borrow.Author.Needs.{needs}
-use Rattle.c_api.specs.Flat.{flatUnit}
 use Rattle.c_api.proofs.flat_unit.Statement.{statement}
+use Rattle.c_api.specs.Flat.{flatUnit}
 use Rattle.c_api.proofs.flat_unit.Tie as tie
 
 enum-known-answer : tie.Need-enum-known-answer

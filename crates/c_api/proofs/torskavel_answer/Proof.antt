@@ -1,7 +1,7 @@
 use mathlib.Core.Path.{_∙_, ap}
 use borrow.Author.Needs.{needs}
-use Rattle.c_api.specs.Flat.{flatPoint}
 use Rattle.c_api.proofs.torskavel_answer.Statement.{statement}
+use Rattle.c_api.specs.Flat.{flatPoint}
 use Rattle.c_api.proofs.torskavel_answer.Tie as tie
 
 answer-requires : tie.Need-answer-requires

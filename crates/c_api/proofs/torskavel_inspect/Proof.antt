@@ -1,7 +1,7 @@
 use mathlib.Core.Path.{_∙_, ap}
 use borrow.Author.Needs.{needs}
-use Rattle.c_api.specs.Flat.{flatUnit}
 use Rattle.c_api.proofs.torskavel_inspect.Statement.{statement}
+use Rattle.c_api.specs.Flat.{flatUnit}
 use Rattle.c_api.proofs.torskavel_inspect.Tie as tie
 
 inspect-requires : tie.Need-inspect-requires

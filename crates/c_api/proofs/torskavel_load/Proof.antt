@@ -1,7 +1,7 @@
 use mathlib.Core.Path.{_∙_, ap}
 use borrow.Author.Needs.{needs}
-use Rattle.c_api.specs.Flat.{flatUnit}
 use Rattle.c_api.proofs.torskavel_load.Statement.{statement}
+use Rattle.c_api.specs.Flat.{flatUnit}
 use Rattle.c_api.proofs.torskavel_load.Tie as tie
 
 load-requires : tie.Need-load-requires

@@ -6,11 +6,11 @@ use borrow.Author.Needs.{needs}
 use lib.ListN.{getD, length}
 use denote.Ref.{now}
 use Rattle.spline.specs.Box.{places, width}
+use Rattle.unit.specs.Unit.{netOf}
 use Rattle.shape.proofs.Shapes.{limited-boxed}
 use Rattle.shape.specs.Shape.{Boxed, shapeOf}
 use Rattle.shape.specs.declared.Counts.{Counts}
 use Rattle.shape.specs.declared.Shape.{Shape}
-use Rattle.unit.specs.Unit.{netOf}
 use Rattle.listing.proofs.Printed.{net-lines}
 use Rattle.listing.proofs.Texts.{put-length, put-then}
 use Rattle.listing.proofs.lines.put_net.Statement.{statement}

@@ -2,17 +2,17 @@ use mathlib.Core.List.{[], _∷_}
 use mathlib.Core.Path.{ap}
 use Prim.Native.Nat.{_%_, _+_, _/_, _<_, _≤_, ℕ}
 use native.Mathlib.Omega.{arith}
-use lib.ListN.{length, length-append, length-set}
-use denote.Ref.{now}
 use borrow.Fn.Kinds.{In}
 use borrow.Fn.PlainCycle.{Measures, and, falls, is}
+use lib.ListN.{length, length-append, length-set}
+use denote.Ref.{now}
 use Rattle.listing.proofs.Texts.{decimal-large, decimal-small, put-byte, put-length, put-then, tenth-less}
-use Rattle.listing.proofs.text.+put_decimal.Lts-put_decimal as lts
-use Rattle.listing.proofs.text.+put_decimal.Tie.{close}
 use Rattle.listing.proofs.text.+put_decimal.{statement}
+use Rattle.listing.proofs.text.+put_decimal.Tie.{close}
+use Rattle.listing.specs.Text.{decimal}
+use Rattle.listing.proofs.text.+put_decimal.Lts-put_decimal as lts
 use Rattle.listing.proofs.text.put_decimal.Kinds as kinds
 use Rattle.listing.proofs.text.put_decimal.Reads as reads
-use Rattle.listing.specs.Text.{decimal}
 
 -- the measure is the number
 abbrev μ : Measures 1 kinds.ps ℕ
