@@ -18,7 +18,7 @@ use Rattle.spline.specs.Box.{netList, places, width}
 use Rattle.spline.specs.Defined.{defined, repeats}
 use Rattle.spline.specs.Multiplicities.{HasRepeat, Multiplicities, allowed}
 use Rattle.spline.specs.Place.{Direction}
-use Rattle.unit.proofs.Checks.{at-passed, if-passed}
+use Rattle.unit.proofs.Checks.{at-passed, if-passed, or-false}
 use Rattle.unit.proofs.Limits.{allowed-limits}
 use Rattle.unit.specs.Checks.{passedOr, refusal, refuseAt}
 use Rattle.unit.specs.Unit.{emptyUnit, withNet}
@@ -26,7 +26,6 @@ use Rattle.unit.specs.declared.Checked.the-variants.{Passed}
 use Rattle.unit.specs.declared.Unit.{Unit}
 use Rattle.unit.specs.declared.UnitAnswer.{UnitAnswer}
 use Rattle.unit.specs.declared.UnitAnswer.the-variants.{Changed, Refused}
-use Rattle.net.proofs.Accepted.{or-false}
 use Rattle.inspection.specs.Inspect.{definedNumber, differsFrom, inspectAnswer, inspectChecks}
 use Rattle.claims.proofs.Plain.{plain-defined, repeat-or-none}
 use Rattle.claims.specs.Nets.{HoldsDefined, RightNumbers}

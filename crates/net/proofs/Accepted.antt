@@ -1,14 +1,13 @@
 -- A build that passed its checks.
-use mathlib.Core.Bool.{Bool, _||_, false, true}
+use mathlib.Core.Bool.{_||_}
 use mathlib.Core.List.{List}
-use mathlib.Core.Path.{_≡_, refl}
+use mathlib.Core.Path.{_≡_}
 use Prim.Native.Nat.{_≤_, ℕ}
-use native.Mathlib.Omega.{arith}
 use borrow.Author.Tests.{le-ltb, ltb-false}
 use lib.Dec.{ltb}
 use lib.ListN.{getD, length}
 use Rattle.sums.specs.Search.{first}
-use Rattle.unit.proofs.Checks.{at-passed, if-passed, then-passed}
+use Rattle.unit.proofs.Checks.{at-passed, if-passed, or-false, then-passed}
 use Rattle.unit.specs.declared.Checked.the-variants.{Passed}
 use Rattle.net.specs.Order.{GoodOrder, badByte, buildChecks, orderChecks, orderPlaces}
 
@@ -22,10 +21,6 @@ pub record BuildAccepted (order : List ℕ) (net work : ℕ) : Type 0 where
   pub good : GoodOrder order
   pub net-room : orderPlaces order ≤ net
   pub work-room : orderPlaces order ≤ work
-
-pub or-false : (a b : Bool) → (a || b) ≡ false → (a ≡ false) × (b ≡ false)
-or-false true b h = let z : _≡_ {A = ℕ} 0 1 = cc in absurd (omega arith)
-or-false false b h = (refl, h)
 
 pub build-accepted : (order : List ℕ) (net work : ℕ) → buildChecks order net work ≡ Passed → BuildAccepted order net work
 unfolding buildChecks

@@ -1,12 +1,12 @@
 -- A unit and a point that passed their checks.
-use mathlib.Core.Bool.{Bool, _||_, false, true}
+use mathlib.Core.Bool.{true}
 use mathlib.Core.Path.{_≡_, refl}
 use Prim.Native.Nat.{_≤_, ℕ}
 use native.Mathlib.Nat.{pos-of-ne-zero}
 use native.Mathlib.Omega.{arith}
 use borrow.Author.Tests.{eqb-false, ltb-false, not-false}
 use Rattle.spline.specs.Multiplicities.{degree}
-use Rattle.unit.proofs.Checks.{if-passed}
+use Rattle.unit.proofs.Checks.{if-passed, or-false}
 use Rattle.unit.specs.Checks.{passedOr}
 use Rattle.unit.specs.Unit.{hasBlock, hasNet, netOf}
 use Rattle.unit.specs.declared.Checked.{Checked}
@@ -28,10 +28,6 @@ equipped u h =
     let a = if-passed 21 _ _ h in
     let b = if-passed 22 _ _ (a .1) in
     record { net-held = not-false _ (a .0); block-held = not-false _ (b .0) }
-
-pub or-false : (a b : Bool) → (a || b) ≡ false → (a ≡ false) × (b ≡ false)
-or-false true b h = let z : _≡_ {A = ℕ} 0 1 = cc in absurd (omega arith)
-or-false false b h = (refl, h)
 
 pub record Placed (u : Unit) (x y z D : ℕ) : Type 0 where
   pub some : 1 ≤ D

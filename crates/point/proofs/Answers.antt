@@ -12,12 +12,12 @@ use Rattle.sums.specs.Search.{at, nowhere}
 use Rattle.spline.specs.Box.{places, width}
 use Rattle.spline.specs.Multiplicities.{Multiplicities, degree}
 use Rattle.spline.specs.Place.{Axis}
-use Rattle.unit.proofs.Checks.{if-passed, then-passed}
+use Rattle.unit.proofs.Checks.{if-passed, or-false, then-passed}
 use Rattle.unit.specs.Unit.{netOf}
 use Rattle.unit.specs.declared.Checked.the-variants.{Passed}
 use Rattle.unit.specs.declared.Unit.{Unit}
 use Rattle.placing.proofs.Order.{placing-axes, weights-add-up}
-use Rattle.placing.proofs.Placed.{Equipped, Placed, equipped, or-false}
+use Rattle.placing.proofs.Placed.{Equipped, Placed, equipped}
 use Rattle.placing.proofs.Sizes.{unit-shaped}
 use Rattle.placing.specs.Place.{pointChecks, scale, unitChecks}
 use Rattle.placing.specs.Placing.{cell, placing, sizes}

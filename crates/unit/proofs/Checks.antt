@@ -1,5 +1,5 @@
 -- Checks that passed, taken apart.
-use mathlib.Core.Bool.{Bool, false, true}
+use mathlib.Core.Bool.{Bool, _||_, false, true}
 use mathlib.Core.Path.{_≡_, refl, sym}
 use Prim.Native.Nat.{ℕ}
 use native.Mathlib.Omega.{arith}
@@ -23,6 +23,11 @@ at-passed n (at i) rest h = stopped-passed (refusal n i) h
 pub then-passed : (start rest : Checked) → andThen start rest ≡ Passed → (start ≡ Passed) × (rest ≡ Passed)
 then-passed Passed rest h = (refl, h)
 then-passed (Stopped r) rest h = stopped-passed r h
+
+-- where no test of two applies, neither does
+pub or-false : (a b : Bool) → (a || b) ≡ false → (a ≡ false) × (b ≡ false)
+or-false true b h = let z : _≡_ {A = ℕ} 0 1 = cc in absurd (omega arith)
+or-false false b h = (refl, h)
 
 -- a check that stops, stops whatever would follow
 pub if-stopped : (n : ℕ) (applies : Bool) (rest : Checked) (r : Refusal) → refuseIf n applies Passed ≡ Stopped r → refuseIf n applies rest ≡ Stopped r

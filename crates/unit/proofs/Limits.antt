@@ -1,12 +1,12 @@
 -- The limits on a unit's net and block as facts about numbers, and back.
+use mathlib.Core.Bool.{Bool, _&&_, and-eq-true-iff, true}
 use mathlib.Core.Path.{_≡_}
-use mathlib.Core.Bool.{Bool, true, _&&_, and-eq-true-iff}
-use Prim.Native.Nat.{ℕ, _+_, _*_, _≤_}
+use Prim.Native.Nat.{_*_, _+_, _≤_, ℕ}
 use native.Mathlib.Nat.{mul-le-mul}
-use borrow.Author.Tests.{leb-true, le-leb}
+use borrow.Author.Tests.{le-leb, leb-true}
 use Rattle.spline.specs.Multiplicities.{Multiplicities, allowed}
+use Rattle.unit.specs.Unit.{hasBlock, hasNet, netOf, sizeAllowed, sizesAllowed}
 use Rattle.unit.specs.declared.Unit.{Unit}
-use Rattle.unit.specs.Unit.{netOf, hasNet, sizeAllowed, sizesAllowed, hasBlock}
 
 -- what `allowed` says of four multiplicities
 pub record NetLimits (v : Multiplicities) : Type 0 where

@@ -1,10 +1,10 @@
 -- Checks in an order: the first that applies refuses.
 use mathlib.Core.Bool.{Bool, cond}
 use Prim.Native.Nat.{ℕ}
-use Rattle.sums.specs.Search.{Found, nowhere, at}
-use Rattle.unit.specs.declared.Refusal.{Refusal}
+use Rattle.sums.specs.Search.{Found, at, nowhere}
 use Rattle.unit.specs.declared.Checked.{Checked}
 use Rattle.unit.specs.declared.Checked.the-variants.{Passed, Stopped}
+use Rattle.unit.specs.declared.Refusal.{Refusal}
 
 -- the refusal with a number and a place
 abbrev pub refusal : ℕ → ℕ → Refusal

@@ -15,12 +15,11 @@ use Rattle.sums.specs.Search.{first}
 use Rattle.spline.specs.Box.{places, width}
 use Rattle.spline.specs.Multiplicities.{Multiplicities, allowed}
 use Rattle.spline.specs.Place.{Axis}
-use Rattle.unit.proofs.Checks.{if-passed, if-stopped}
+use Rattle.unit.proofs.Checks.{if-passed, if-stopped, or-false}
 use Rattle.unit.specs.Checks.{refuseAt}
 use Rattle.unit.specs.declared.Checked.the-variants.{Passed}
 use Rattle.shape.proofs.Shapes.{limited-boxed, shape-widths}
 use Rattle.shape.specs.Shape.{Boxed, counted, widths}
-use Rattle.net.proofs.Accepted.{or-false}
 use Rattle.inspection.proofs.Limits.{counts-limited}
 use Rattle.inspection.proofs.check_net.Statement.{statement}
 use Rattle.inspection.specs.Inspect.{definedNumber, differs, differsFrom, inspectChecks}

@@ -1,7 +1,7 @@
 use native.Mathlib.Omega.{arith}
 use borrow.Author.Tests.{le-leb}
-use Rattle.unit.specs.Unit.{sizeAllowed}
 use Rattle.unit.proofs.size_allowed.Statement.{statement}
+use Rattle.unit.specs.Unit.{sizeAllowed}
 use Rattle.unit.proofs.size_allowed.Tie as tie
 
 returns : tie.Need-returns

@@ -1,12 +1,12 @@
-use mathlib.Core.Path.{_≡_, sym, _∙_}
 use mathlib.Core.Bool.{true}
-use Prim.Native.Nat.{ℕ, _*_, _≤_}
+use mathlib.Core.Path.{_∙_, _≡_, sym}
+use Prim.Native.Nat.{_*_, _≤_, ℕ}
 use native.Mathlib.Omega.{arith}
 use borrow.Author.Needs.{needs}
-use borrow.Author.Tests.{not-true, not-false}
-use Rattle.unit.specs.Unit.{sizeAllowed, sizesAllowed}
-use Rattle.unit.proofs.Limits.{size-limits, products}
+use borrow.Author.Tests.{not-false, not-true}
+use Rattle.unit.proofs.Limits.{products, size-limits}
 use Rattle.unit.proofs.sizes_allowed.Statement.{statement}
+use Rattle.unit.specs.Unit.{sizeAllowed, sizesAllowed}
 use Rattle.unit.proofs.sizes_allowed.Tie as tie
 
 ok1 : (c : tie.Else1) → sizeAllowed (c .before .before .args .n1) ≡ true

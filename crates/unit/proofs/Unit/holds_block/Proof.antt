@@ -1,6 +1,6 @@
 use borrow.Author.Needs.{needs}
-use Rattle.unit.specs.Unit.{hasBlock}
 use Rattle.unit.proofs.Unit.holds_block.Statement.{statement}
+use Rattle.unit.specs.Unit.{hasBlock}
 use Rattle.unit.proofs.Unit.holds_block.Tie as tie
 
 sizes-allowed-requires : tie.Need-sizes-allowed-requires

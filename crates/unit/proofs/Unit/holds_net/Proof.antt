@@ -1,6 +1,6 @@
 use borrow.Author.Needs.{needs}
-use Rattle.unit.specs.Unit.{hasNet}
 use Rattle.unit.proofs.Unit.holds_net.Statement.{statement}
+use Rattle.unit.specs.Unit.{hasNet}
 use Rattle.unit.proofs.Unit.holds_net.Tie as tie
 
 multiplicities-allowed-requires : tie.Need-multiplicities-allowed-requires
