@@ -1,23 +1,7 @@
-//! An evaluator of four-direction box splines by the recurrence of source document 002, in exact arithmetic.
+//! The commands of the evaluator.
 
-mod calls;
-mod field;
-mod formats;
-mod interpolation;
-mod lent;
-mod literal;
-mod net;
-mod point;
-mod query;
-mod random;
-mod ratio;
-mod recurrence;
-mod sha256;
-mod shares;
-mod unit;
-mod vectors;
-
-use net::Multiplicities;
+use evaluator::net::{self, Multiplicities};
+use evaluator::{formats, query, shares, vectors};
 use std::io::{self, Read, Write};
 use std::path::Path;
 use std::process::ExitCode;
@@ -62,7 +46,7 @@ fn digests() -> Outcome {
 fn shares_expected() -> Outcome {
     let mut input = Vec::new();
     io::stdin().read_to_end(&mut input).map_err(|e| e.to_string())?;
-    let mut prints = shares::Prints::new();
+    let mut prints = shares::Prints::default();
     for line in input.split_inclusive(|&b| b == b'\n') {
         let order = line.strip_suffix(b"\n").unwrap_or(line);
         print(&prints.print_with_order(order))?;

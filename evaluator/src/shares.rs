@@ -13,15 +13,12 @@ fn direction(byte: &u8) -> u8 {
 }
 
 /// The prints for many orders; the orders of one net share it.
+#[derive(Default)]
 pub struct Prints {
     listings: HashMap<Multiplicities, String>,
 }
 
 impl Prints {
-    pub fn new() -> Prints {
-        Prints { listings: HashMap::new() }
-    }
-
     /// The print for an order as typed, without the final newline that the program ignores.
     pub fn print(&mut self, typed: &[u8]) -> String {
         let order: Vec<u8> = typed.iter().map(direction).collect();
@@ -44,12 +41,12 @@ mod tests {
 
     #[test]
     fn the_whole_print_of_document_01() {
-        assert_eq!(Prints::new().print(b""), "box 3 3 3 degree 1\n1 1 1 1\n");
+        assert_eq!(Prints::default().print(b""), "box 3 3 3 degree 1\n1 1 1 1\n");
     }
 
     #[test]
     fn refusals_in_order() {
-        let mut prints = Prints::new();
+        let mut prints = Prints::default();
         let cases: [(&[u8], u8); 7] =
             [(b"111111111", 1), (b"xxxxxxxxx", 1), (b"0", 2), (b"5", 2), (b"\x01", 2), (b"4444x", 2), (b"4444", 4)];
         for (typed, number) in cases {
@@ -68,7 +65,7 @@ mod tests {
 
     #[test]
     fn the_longest_print() {
-        let print = Prints::new().print(b"11112");
+        let print = Prints::default().print(b"11112");
         assert_eq!((print.len(), print.lines().count()), (32076, 3108));
     }
 }

@@ -1,16 +1,21 @@
 #!/usr/bin/env python3
-"""Makes crates/field_check/stdout: what the program field_check must write.
+"""Makes what the program field_check must write.
 
 The answers come from document 01, sections "Field file and block" and "Refused because of what was
 handed in", by Python's own reading of little-endian and two's complement numbers; nothing of the
 library is used. Only the input files and the digest are made as the program makes them.
 
-Run: python3 tests/expect/field.py > crates/field_check/stdout
+    python3 tests/expect/field.py              writes crates/field_check/stdout
+    python3 tests/expect/field.py --check      says whether it is current
 """
 import struct
+import sys
+from pathlib import Path
 
+STORED = Path(__file__).resolve().parents[2] / "crates/field_check/stdout"
 ARRAY = 4098
 MARK_CORRECTION, MARK_UNCERTAINTY = 12345, 54321
+LINES = []
 
 
 class Refused(Exception):
@@ -47,7 +52,7 @@ def digest(numbers):
 
 
 def case(n1, n2, n3, n, length=None, room=(ARRAY, ARRAY), word=None, unlimited=False):
-    """One line. The file's bytes past the sizes are a fixed sequence, below 128 among the uncertainties."""
+    """Adds one line. The file's bytes past the sizes are a fixed sequence, below 128 among the uncertainties."""
     length = 6 + 4 * n if length is None else length
     second = length if unlimited else 6 + 2 * n
     file = bytearray(struct.pack("<3H", n1, n2, n3))
@@ -62,7 +67,7 @@ def case(n1, n2, n3, n, length=None, room=(ARRAY, ARRAY), word=None, unlimited=F
     except Refused as refusal:
         answer = "refused %d %d" % (refusal.number, refusal.place)
     digests = digest(c + 32768 for c in corrections), digest(uncertainties)
-    print("sizes %d %d %d length %d slices %d %d: %s digests %d %d" % (n1, n2, n3, length, *room, answer, *digests))
+    LINES.append("sizes %d %d %d length %d slices %d %d: %s digests %d %d\n" % (n1, n2, n3, length, *room, answer, *digests))
 
 
 # The smallest and the largest blocks, and sizes out of limits.
@@ -113,3 +118,8 @@ case(16, 16, 16, 4096, room=(4096, 4095))
 case(2, 3, 5, 30, room=(29, 29), word=(124, 32768))
 case(2, 3, 5, 30, room=(29, 29), length=125)
 case(65, 1, 1, 65, room=(29, 29))
+
+if sys.argv[1:] != ["--check"]:
+    STORED.write_text("".join(LINES))
+elif STORED.read_text() != "".join(LINES):
+    sys.exit("not current: stdout")

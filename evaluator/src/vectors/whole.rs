@@ -48,7 +48,7 @@ pub fn nets(shelf: &Shelf) -> String {
 }
 
 pub fn shares() -> String {
-    let mut prints = Prints::new();
+    let mut prints = Prints::default();
     let print = |order: &str| String::from_utf8(prints.print_with_order(order.as_bytes())).expect("plain text");
     std::iter::once(SHARES_HEADER.to_string()).chain(ORDERS.split(',').map(print)).collect()
 }

@@ -1,0 +1,19 @@
+//! An evaluator of four-direction box splines by the recurrence of source document 002, in exact arithmetic. Program
+//! `evaluator` prints what it computes; the harness of the C interface links it.
+
+pub mod calls;
+pub mod field;
+pub mod formats;
+pub mod interpolation;
+pub mod lent;
+pub mod literal;
+pub mod net;
+pub mod point;
+pub mod query;
+pub mod random;
+pub mod ratio;
+pub mod recurrence;
+pub mod sha256;
+pub mod shares;
+pub mod unit;
+pub mod vectors;

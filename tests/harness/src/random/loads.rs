@@ -1,0 +1,89 @@
+//! Random field files.
+
+use super::{Plan, break_sizes, each_plan, long_enough, pick, shorten, sizes, unit};
+use crate::Outcome;
+use crate::answers::number;
+use crate::calls::Load;
+use crate::report::Tally;
+use evaluator::field::{self, Block, NEVER_MEASURED};
+use evaluator::random::Random;
+
+const CHECKS: [u8; 5] = [5, 6, 7, 8, 9];
+const SIZES_LENGTH: usize = 6;
+
+pub fn run(seed: u64, count: usize, tally: &mut Tally) -> Outcome {
+    each_plan(seed, count, &CHECKS, |plan, random| {
+        let (file, lengths) = case(plan, random);
+        let unit = unit(random);
+        let expected = field::load(&unit, &file, lengths);
+        plan.made(number(&expected))?;
+        Load { unit, file: &file, lengths }.check(&expected)?;
+        tally.count(number(&expected));
+        Ok(())
+    })
+}
+
+fn block(random: &mut Random) -> Block {
+    let mut block = Block::random(sizes([1; 3], random), random);
+    for _ in 0..random.between(0, 3) {
+        let entry = random.between(0, block.corrections.len() - 1);
+        block.corrections[entry] = NEVER_MEASURED;
+    }
+    block
+}
+
+/// A file, and the lengths of corrections and uncertainties. The last fault comes first: cutting a file hides others.
+fn case(plan: Plan, random: &mut Random) -> (Vec<u8>, [usize; 2]) {
+    let block = block(random);
+    let entries = block.sizes.entries();
+    let mut file = block.file();
+    let mut lengths = [0; 2].map(|_: usize| long_enough(entries, random));
+    match plan {
+        Plan::Sound => {}
+        Plan::Faulty(faults) => {
+            for &fault in faults.iter().rev() {
+                match fault {
+                    9 => shorten(&mut lengths, entries, random),
+                    fault => damage(&mut file, fault, entries, random),
+                }
+            }
+        }
+        Plan::Free => return free(random),
+    }
+    (file, lengths)
+}
+
+fn damage(file: &mut Vec<u8>, fault: u8, entries: usize, random: &mut Random) {
+    match fault {
+        8 => {
+            for _ in 0..random.between(1, 3) {
+                let entry = random.between(0, entries - 1);
+                file[SIZES_LENGTH + 2 * (entries + entry) + 1] |= 0x80;
+            }
+        }
+        7 if random.below(2) == 0 => file.truncate(random.between(SIZES_LENGTH, file.len() - 1)),
+        7 => file.resize(file.len() + random.between(1, 9), 0),
+        6 => {
+            let mut n = [0, 2, 4].map(|at| u16::from_le_bytes([file[at], file[at + 1]]));
+            break_sizes(&mut n, random);
+            file.splice(..SIZES_LENGTH, n.into_iter().flat_map(u16::to_le_bytes));
+        }
+        _ => file.truncate(random.between(0, SIZES_LENGTH - 1)),
+    }
+}
+
+/// A few bytes after any sizes, or a small file with other bytes here and there.
+fn free(random: &mut Random) -> (Vec<u8>, [usize; 2]) {
+    let n = pick(random, &[[1, 1, 1], [2, 1, 1], [1, 2, 3], [2, 2, 2]]);
+    let sizes = evaluator::unit::Sizes::new(n).expect("within the limits");
+    let mut file = Block::random(sizes, random).file();
+    for _ in 0..random.between(0, 4) {
+        let at = random.between(0, file.len() - 1);
+        file[at] = random.below(256) as u8;
+    }
+    if random.below(3) == 0 {
+        file.resize(random.between(0, file.len() + 4), 1);
+    }
+    let lengths = [0; 2].map(|_: usize| random.between(sizes.entries() - 1, sizes.entries() + 3));
+    (file, lengths)
+}

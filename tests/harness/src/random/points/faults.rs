@@ -1,0 +1,116 @@
+//! Point calls that the checks refuse, and calls with any numbers.
+
+use super::super::{break_multiplicities, break_sizes, pick, shape, shorten, too_short, unit};
+use super::case::Case;
+use crate::shelf::Shelf;
+use evaluator::field::NEVER_MEASURED;
+use evaluator::interpolation::quadruples;
+use evaluator::net::Multiplicities;
+use evaluator::point::{LARGEST_DIVISOR, largest_divisor};
+use evaluator::random::Random;
+
+/// Degrees from this on have divisors that 11 refuses and 10 does not.
+const LEAST_DEGREE_OF_11: usize = 4;
+
+/// A sound call with the faults of these checks.
+pub fn faulty(checks: &[u8], shelf: &Shelf, random: &mut Random) -> Case {
+    let mut v = shape(random);
+    while checks.contains(&11) && v.degree() < LEAST_DEGREE_OF_11 {
+        v = shape(random);
+    }
+    let mut case = match checks.iter().find(|check| [10, 11].contains(check)) {
+        Some(check) => Case::over(refused_divisor(*check, checks, v, random), v, random),
+        None => Case::sound(v, random),
+    };
+    // Last the first check's: what breaks the unit hides what the others need of it.
+    for &check in checks.iter().rev() {
+        fault(check, &mut case, shelf, random);
+    }
+    case
+}
+
+fn refused_divisor(check: u8, checks: &[u8], v: Multiplicities, random: &mut Random) -> u32 {
+    let above = random.between(LARGEST_DIVISOR as usize + 1, u32::MAX as usize) as u32;
+    match check {
+        10 if checks.contains(&11) => pick(random, &[LARGEST_DIVISOR + 1, above, u32::MAX]),
+        10 => pick(random, &[0, LARGEST_DIVISOR + 1, above, u32::MAX]),
+        _ => random.between(largest_divisor(v.degree()) as usize + 1, LARGEST_DIVISOR as usize) as u32,
+    }
+}
+
+fn fault(check: u8, case: &mut Case, shelf: &Shelf, random: &mut Random) {
+    let entries = case.unit.n.into_iter().map(usize::from).product();
+    match check {
+        21 if random.below(2) == 0 => case.unit.has_net = false,
+        21 => break_multiplicities(&mut case.unit.v, random),
+        22 if random.below(2) == 0 => case.unit.has_block = false,
+        22 => break_sizes(&mut case.unit.n, random),
+        4 => case.net_length = too_short(case.net.of.places(), random),
+        9 => {
+            let mut lengths = [case.corrections.len(), case.uncertainties.len()];
+            shorten(&mut lengths, entries, random);
+            case.corrections.truncate(lengths[0]);
+            case.uncertainties.truncate(lengths[1]);
+        }
+        12 => outside(case, random),
+        13 => {
+            for _ in 0..random.between(1, 2) {
+                let index = needed_entry(case, random);
+                case.corrections[index] = NEVER_MEASURED;
+            }
+        }
+        23 => one_share_more(case, shelf, random),
+        _ => {}
+    }
+}
+
+/// The index of an entry that the point needs.
+fn needed_entry(case: &Case, random: &mut Random) -> usize {
+    let extents = case.net.of.extents();
+    let j = [0, 1, 2].map(|b| case.cube[b] - random.between(0, extents[b] - 1));
+    let [n1, n2, _] = case.unit.n.map(usize::from);
+    j[0] + n1 * (j[1] + n2 * j[2])
+}
+
+/// On one axis just below the window's room, just above the block, or far away.
+fn outside(case: &mut Case, random: &mut Random) {
+    let axis = random.between(0, 2);
+    let divisor = u64::from(case.divisor.max(1));
+    let below = (case.net.of.extents()[axis] as u64 - 1) * divisor - 1;
+    let above = u64::from(case.unit.n[axis]) * divisor;
+    let coordinate = pick(random, &[0, below, above, above + divisor - 1, u64::from(u32::MAX)]);
+    case.coordinates[axis] = coordinate.min(u32::MAX.into()) as u32;
+}
+
+/// The share of one needed entry is another at one local place of the point's tetrahedron.
+fn one_share_more(case: &mut Case, shelf: &Shelf, random: &mut Random) {
+    let v = case.net.of;
+    let mut axes = [0, 1, 2];
+    axes.sort_by_key(|&b| (std::cmp::Reverse(case.remainder[b]), b));
+    let [_, b1, b2, b3] = pick(random, &quadruples(v.degree()));
+    let mut place = v.extents().map(|e| v.degree() * random.between(0, e - 1));
+    for (axis, local) in axes.into_iter().zip([b1 + b2 + b3, b2 + b3, b3]) {
+        place[axis] += local;
+    }
+    let index = v.index(place);
+    let by = random.between(1, u32::MAX as usize) as u32;
+    let by = pick(random, &[1, u32::MAX, by]);
+    case.net.changes.push((index, shelf.net(v).numbers[index].wrapping_add(by)));
+}
+
+/// Any unit over a small net and block, any point and any divisor.
+pub fn free(random: &mut Random) -> Case {
+    let degree = random.between(1, 3);
+    let v = pick(random, &Multiplicities::of_degree(degree));
+    let any = random.below(1 << 32) as u32;
+    let divisor = pick(random, &[0, 1, 2, 3, 4096, 4097, any]);
+    let mut case = Case::over(divisor, v, random);
+    if random.below(2) == 0 {
+        case.unit = unit(random);
+    }
+    for coordinate in &mut case.coordinates {
+        let any = random.below(1 << 32) as u32;
+        *coordinate = pick(random, &[*coordinate, *coordinate, *coordinate, 0, any, u32::MAX]);
+    }
+    case
+}
