@@ -1,5 +1,5 @@
 //! An evaluator of four-direction box splines by the recurrence of source document 002, in exact arithmetic. Program
-//! `evaluator` prints what it computes; the harness of the C interface links it.
+//! `evaluator` prints what it computes; the harness of the C interface and the benchmark link it.
 
 pub mod calls;
 pub mod field;

@@ -102,27 +102,46 @@ pub fn place(call: &Call) -> Result<Placed, Refusal> {
     }
 }
 
-pub fn answer(call: &Call) -> Result<Fraction, Refusal> {
-    let placed = place(call)?;
+/// The translates of the point, in a tetrahedron of the cube that has it.
+fn translates(placed: &Placed) -> Translates {
     let remainder = placed.remainder.map(i64::from);
     let allowed = |order: &&[usize; 3]| order.windows(2).all(|o| remainder[o[0]] >= remainder[o[1]]);
     let order = AXIS_ORDERS.iter().find(allowed).expect("the remainders have an order");
-    let mut translates = Translates::new(remainder, i64::from(placed.divisor), *order);
-    let table = translates.table(&placed.multiplicities.counts());
+    Translates::new(remainder, i64::from(placed.divisor), *order)
+}
+
+/// The sums over the block, where `value` is m! D^m M at a whole-number translate of the point.
+fn sum_over_block(call: &Call, placed: &Placed, value: impl Fn([i64; 3]) -> i64) -> Fraction {
     let (mut numerator, mut uncertainty) = (0, 0);
     for index in 0..placed.sizes.entries() {
         let j = placed.sizes.entry(index);
-        let value = i128::from(table.at([0, 1, 2].map(|b| placed.cube[b] as i64 - j[b] as i64)));
+        let value = i128::from(value([0, 1, 2].map(|b| placed.cube[b] as i64 - j[b] as i64)));
         numerator += value * i128::from(call.corrections[index]);
         uncertainty += value * i128::from(call.uncertainties[index]);
     }
-    Ok(Fraction::new(numerator, uncertainty, placed.denominator))
+    Fraction::new(numerator, uncertainty, placed.denominator)
+}
+
+pub fn answer(call: &Call) -> Result<Fraction, Refusal> {
+    let placed = place(call)?;
+    let mut translates = translates(&placed);
+    let table = translates.table(&placed.multiplicities.counts());
+    Ok(sum_over_block(call, &placed, |l| table.at(l)))
+}
+
+/// As `answer`, each M(x - j) by itself and without tables.
+pub fn answer_without_tables(call: &Call) -> Result<Fraction, Refusal> {
+    let placed = place(call)?;
+    let translates = translates(&placed);
+    let counts = placed.multiplicities.counts();
+    Ok(sum_over_block(call, &placed, |l| translates.alone(&counts, l)))
 }
 
 #[cfg(test)]
 mod tests {
     use super::*;
     use crate::field::Block;
+    use crate::random::Random;
 
     /// Document 01's block of 2, 2, 2 with the simple net.
     fn small(second: i16) -> Block {
@@ -148,6 +167,19 @@ mod tests {
         assert_eq!(ask([3, 2, 2], 2), Ok(Fraction::new(60, 10, 2)));
         assert_eq!(ask([0, 1, 1], 1), Err(Refusal::from(12)));
         assert_eq!(ask([2, 1, 1], 1), Err(Refusal::from(12)));
+    }
+
+    #[test]
+    fn tables_change_no_answer() {
+        let block = Block::random(Sizes::new([4, 4, 4]).unwrap(), &mut Random::new(7));
+        let multiplicities = Multiplicities::new([2, 1, 2, 2]).unwrap();
+        let unit = Unit::EMPTY.with_net(multiplicities).with_block(block.sizes);
+        let (corrections, uncertainties) = (&block.corrections[..], &block.uncertainties[..]);
+        for coordinates in [[39, 31, 42], [47, 24, 36], [36, 36, 36]] {
+            let net_length = multiplicities.places();
+            let call = Call { unit, net_length, corrections, uncertainties, coordinates, divisor: 12 };
+            assert_eq!(answer_without_tables(&call), answer(&call));
+        }
     }
 
     #[test]

@@ -128,14 +128,17 @@ impl Translates {
         inside as i64
     }
 
+    /// T_i at a translate, times Q.
+    fn t(&self, counts: &Counts, l: [i64; 3], i: usize) -> i64 {
+        let x = [0, 1, 2].map(|b| self.point[b] + self.divisor * l[b]);
+        representation(counts, x)[i]
+    }
+
     /// (1), by what each known number adds: to its own translate the first term, to that one d_i on the second.
     /// Columns that do not span the space belong to no function but to a density on a plane; off the plane that is 0.
     fn recur(&self, counts: &Counts, removable: &[usize]) -> Table {
         let mut table = Table::fill(counts, |_| 0);
-        let t = |l: [i64; 3], i: usize| {
-            let x = [0, 1, 2].map(|b| self.point[b] + self.divisor * l[b]);
-            representation(counts, x)[i]
-        };
+        let t = |l: [i64; 3], i: usize| self.t(counts, l, i);
         for &i in removable {
             let count = counts[i] as i64 * self.divisor;
             for (l, value) in self.tables[&without(counts, i)].nonzero() {
@@ -146,11 +149,31 @@ impl Translates {
         }
         table
     }
+
+    /// The number at one translate by the recurrence alone: no table is kept, and each term is evaluated anew.
+    pub fn alone(&self, counts: &Counts, l: [i64; 3]) -> i64 {
+        if (0..3).any(|b| l[b] < 0 || l[b] >= (counts[b] + counts[3]) as i64) {
+            return 0;
+        }
+        if counts.iter().sum::<usize>() == 3 {
+            return self.parallelepiped(counts, l);
+        }
+        let term = |i: usize| {
+            let before = [0, 1, 2].map(|b| l[b] - DIRECTIONS[i][b]);
+            let (fewer, t) = (without(counts, i), self.t(counts, l, i));
+            t * self.alone(&fewer, l) + (counts[i] as i64 * self.divisor - t) * self.alone(&fewer, before)
+        };
+        (0..4).filter(|&i| removable(counts, i)).map(term).sum()
+    }
 }
 
-/// The directions of which one column can go so that the others still span the space.
+/// Whether one column of a direction can go so that the others still span the space.
+fn removable(counts: &Counts, direction: usize) -> bool {
+    counts[direction] > 0 && spans(&without(counts, direction))
+}
+
 fn removable_directions(counts: &Counts) -> Vec<usize> {
-    (0..4).filter(|&i| counts[i] > 0 && spans(&without(counts, i))).collect()
+    (0..4).filter(|&i| removable(counts, i)).collect()
 }
 
 #[cfg(test)]

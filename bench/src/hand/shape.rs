@@ -1,0 +1,50 @@
+//! Degree, extents and box of a net, sizes of a block, and their limits.
+
+use crate::torskavel::Unit;
+
+const LARGEST_SUM: u32 = 12;
+const LARGEST_SIZE: usize = 64;
+const LARGEST_BLOCK: usize = 4096;
+
+#[derive(Clone, Copy)]
+pub struct Shape {
+    /// m
+    pub degree: usize,
+    /// E1, E2, E3
+    pub extents: [usize; 3],
+    /// W1, W2, W3
+    pub widths: [usize; 3],
+}
+
+impl Shape {
+    /// Of multiplicities within the limits.
+    pub fn of(v: [u8; 4]) -> Shape {
+        let v = v.map(usize::from);
+        let degree = v.iter().sum::<usize>() - 3;
+        let extents = [v[0] + v[3], v[1] + v[3], v[2] + v[3]];
+        Shape { degree, extents, widths: extents.map(|e| degree * e + 1) }
+    }
+
+    /// Of the net that a unit counts as having.
+    pub fn of_unit(unit: &Unit) -> Option<Shape> {
+        let v = [unit.v1, unit.v2, unit.v3, unit.v4];
+        let allowed = !v.contains(&0) && v.iter().map(|&v| u32::from(v)).sum::<u32>() <= LARGEST_SUM;
+        (unit.has_net && allowed).then(|| Shape::of(v))
+    }
+
+    pub fn places(&self) -> usize {
+        self.widths.iter().product()
+    }
+
+    /// How far apart neighbours on each axis stand.
+    pub fn strides(&self) -> [usize; 3] {
+        [1, self.widths[0], self.widths[0] * self.widths[1]]
+    }
+}
+
+/// n1, n2, n3 of the block that a unit counts as having.
+pub fn block_sizes(unit: &Unit) -> Option<[usize; 3]> {
+    let n = [unit.n1, unit.n2, unit.n3].map(usize::from);
+    let allowed = n.iter().all(|n| (1..=LARGEST_SIZE).contains(n)) && n.iter().product::<usize>() <= LARGEST_BLOCK;
+    (unit.has_block && allowed).then_some(n)
+}
