@@ -10,7 +10,7 @@ use lib.IntN.{_+ℤ_, natAbs, negsuc, pos, ℤ}
 use mir.Facts.{toZ-ofZ}
 use mir.Syntax.{w16, w64}
 use mir.Val.{SFits, ofZ, toZ}
-use Rattle.sums.proofs.Accumulator.{fits}
+use Rattle.sums.proofs.MachineSizes.{fits}
 use Rattle.sums.proofs.Signed.{abs-add}
 use Rattle.point.specs.Blending.{isGap}
 

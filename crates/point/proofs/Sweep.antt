@@ -6,7 +6,7 @@ use native.Mathlib.Omega.{arith}
 use lib.IntN.{natAbs, pos, ℤ}
 use mir.Syntax.{w16}
 use mir.Val.{SFits}
-use Rattle.sums.proofs.Accumulator.{fits-size}
+use Rattle.sums.proofs.MachineSizes.{fits-size}
 use Rattle.sums.proofs.Signed.{abs-add, abs-mul}
 use Rattle.sums.proofs.Sum.{sum-next, sum-zero}
 use Rattle.sums.proofs.SumZ.{sumZ-next, sumZ-zero}

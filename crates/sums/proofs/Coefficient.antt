@@ -1,8 +1,7 @@
 -- Laws of factorials, binomial and multinomial coefficients.
-use mathlib.Core.Path.{_≡_, refl, sym, _∙_, ap}
+use mathlib.Core.Path.{_≡_, refl, sym, ap}
 use Prim.Native.Nat.{ℕ, zero, suc, _+_, _*_, _-_, _≤_, _<_}
 use native.Mathlib.Nat.{le-add-right, mul-pos, mul-le-mul-left, mul-le-mul-right, div-eq-of-eq-mul-left}
-use native.Mathlib.Numerals.{add-one}
 use native.Mathlib.Omega.{arith}
 use Rattle.sums.specs.Coefficient.{factorial, binomial, multinomial}
 
@@ -67,9 +66,6 @@ pub factorial-suc : (n : ℕ) → factorial (suc n) ≡ suc n * factorial n
 unfolding factorial
 factorial-suc n = refl
 
-pub factorial-next : (n : ℕ) → factorial (n + 1) ≡ (n + 1) * factorial n
-factorial-next n = rw (add-one n) (factorial-suc n)
-
 pub factorial-pos : (n : ℕ) → 0 < factorial n
 unfolding factorial
 factorial-pos zero = omega arith
@@ -103,20 +99,6 @@ binomial-choose n k h =
 
 pub binomial-factorial : (n k : ℕ) → k ≤ n → factorial n ≡ binomial n k * (factorial k * factorial (n - k))
 binomial-factorial n k h = rw (binomial-choose n k h) (sym (choose-factorial n k (n - k) (omega arith)))
-
-pub binomial-zero : (n : ℕ) → binomial n 0 ≡ 1
-binomial-zero n = binomial-choose n 0 (omega arith) ∙ choose-zero n
-
-pub binomial-self : (n : ℕ) → binomial n n ≡ 1
-binomial-self n = binomial-choose n n (omega arith) ∙ choose-self n
-
-pub binomial-pos : (n k : ℕ) → k ≤ n → 0 < binomial n k
-binomial-pos n k h = rw (binomial-choose n k h) (choose-pos n k h)
-
--- Pascal's rule
-pub binomial-suc : (n k : ℕ) → k < n → binomial (suc n) (suc k) ≡ binomial n k + binomial n (suc k)
-binomial-suc n k h =
-    rw (binomial-choose (suc n) (suc k) (omega arith), binomial-choose n k (omega arith), binomial-choose n (suc k) h) (choose-suc n k)
 
 -- ---- multinomial coefficients
 

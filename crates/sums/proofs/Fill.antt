@@ -7,7 +7,7 @@ use native.Mathlib.Nat.{le-refl, le-suc-iff, add-zero, add-suc}
 use native.Mathlib.Numerals.{add-one}
 use native.Mathlib.Omega.{arith}
 use lib.ListN.{length, take, drop, getD, set, length-append, length-drop, List·getD-append}
-use lib.Seq.{drop-cons, drop-drop, drop-length, drop-append-le, drop-append-add, take-append-le, take-length, set-at, getD-at, getD-append-add, getD-drop, ext-getD}
+use lib.Seq.{drop-cons, drop-drop, drop-length, drop-append-le, drop-append-add, take-append-le, take-length, set-at, getD-at, ext-getD}
 use Rattle.sums.specs.Fill.{tabulate, filled}
 
 -- only the values below n count
@@ -67,13 +67,6 @@ module _ {A : Type 0} (f : ℕ → A) where
   pub filled-at : (n : ℕ) (d : List A) (i : ℕ) (z : A) → i < n → getD (filled f n d) i z ≡ f i
   unfolding filled
   filled-at n d i z h = List·getD-append (tabulate f n) (drop n d) z i (omega (arith, length-tabulate n)) ∙ tabulate-at n i z h
-
-  pub filled-past : (n : ℕ) (d : List A) (i : ℕ) (z : A) → n ≤ i → getD (filled f n d) i z ≡ getD d i z
-  unfolding filled
-  filled-past n d i z h =
-      let e : i ≡ length (tabulate f n) + (i - n) = omega (arith, length-tabulate n) in
-      let k : n + (i - n) ≡ i = omega arith in
-      ap (λ (j : ℕ). getD (tabulate f n ++ drop n d) j z) e ∙ getD-append-add (tabulate f n) (drop n d) (i - n) z ∙ getD-drop n d (i - n) z ∙ ap (λ (j : ℕ). getD d j z) k
 
   pub length-filled : (n : ℕ) (d : List A) → n ≤ length d → length (filled f n d) ≡ length d
   unfolding filled

@@ -3,7 +3,7 @@ pub mod Search
 pub mod Sum
 pub mod Signed
 pub mod SumZ
-pub mod Accumulator
+pub mod MachineSizes
 pub mod Coefficient
 pub mod Multinomial
 pub mod Places

@@ -1,61 +1,24 @@
 -- Sums over all (b0, b1, b2, b3) with the sum m, and the multinomial theorem.
 use mathlib.Core.Path.{_≡_, ap, _∙_}
-use Prim.Native.Nat.{ℕ, zero, suc, _+_, _*_, _-_, _^_, _≤_}
-use native.Mathlib.Nat.{le-trans, suc-sub-suc, sub-zero, pow-zero, pow-succ', mul-le-mul-right}
+use Prim.Native.Nat.{ℕ, zero, suc, _+_, _*_, _-_, _^_}
+use native.Mathlib.Nat.{suc-sub-suc, sub-zero, pow-zero, pow-succ'}
 use native.Mathlib.Omega.{arith}
-use lib.IntN.{ℤ, pos, _*ℤ_, natAbs}
+use lib.IntN.{ℤ, pos, _*ℤ_}
 use Rattle.sums.specs.Sum.{sumTo, sumZ}
 use Rattle.sums.specs.Coefficient.{binomial}
 use Rattle.sums.specs.Simplex.{sumSimplex, sumSimplexZ, bernstein}
-use Rattle.sums.proofs.Sum.{sum-zero, sum-suc, sum-first, sum-cong, sum-add, sum-mul, sum-le, sum-term}
-use Rattle.sums.proofs.Signed.{abs-mul}
-use Rattle.sums.proofs.SumZ.{sumZ-cong, sumZ-mul, sumZ-pos, sumZ-abs}
+use Rattle.sums.proofs.Sum.{sum-zero, sum-suc, sum-first, sum-cong, sum-add, sum-mul}
+use Rattle.sums.proofs.SumZ.{sumZ-cong, sumZ-mul, sumZ-pos}
 use Rattle.sums.proofs.Coefficient.{choose, choose-zero, choose-suc, choose-over, binomial-choose, multinomial-binomial}
 
 -- ---- sums over the simplex
 
 module _ (m : ℕ) where
   -- only numbers with the sum m count
-  pub sumSimplex-cong : (f g : ℕ → ℕ → ℕ → ℕ → ℕ) → ((b0 b1 b2 b3 : ℕ) → b0 + b1 + b2 + b3 ≡ m → f b0 b1 b2 b3 ≡ g b0 b1 b2 b3) → sumSimplex m f ≡ sumSimplex m g
-  unfolding sumSimplex
-  sumSimplex-cong f g h =
-      sum-cong (suc m) _ _ (λ a1 l1. sum-cong (suc a1) _ _ (λ a2 l2. sum-cong (suc a2) _ _ (λ a3 l3. h (m - a1) (a1 - a2) (a2 - a3) a3 (omega arith))))
-
   pub sumSimplexZ-cong : (f g : ℕ → ℕ → ℕ → ℕ → ℤ) → ((b0 b1 b2 b3 : ℕ) → b0 + b1 + b2 + b3 ≡ m → f b0 b1 b2 b3 ≡ g b0 b1 b2 b3) → sumSimplexZ m f ≡ sumSimplexZ m g
   unfolding sumSimplexZ
   sumSimplexZ-cong f g h =
       sumZ-cong (suc m) _ _ (λ a1 l1. sumZ-cong (suc a1) _ _ (λ a2 l2. sumZ-cong (suc a2) _ _ (λ a3 l3. h (m - a1) (a1 - a2) (a2 - a3) a3 (omega arith))))
-
-  pub sumSimplex-le : (f g : ℕ → ℕ → ℕ → ℕ → ℕ) → ((b0 b1 b2 b3 : ℕ) → b0 + b1 + b2 + b3 ≡ m → f b0 b1 b2 b3 ≤ g b0 b1 b2 b3) → sumSimplex m f ≤ sumSimplex m g
-  unfolding sumSimplex
-  sumSimplex-le f g h =
-      sum-le (suc m) _ _ (λ a1 l1. sum-le (suc a1) _ _ (λ a2 l2. sum-le (suc a2) _ _ (λ a3 l3. h (m - a1) (a1 - a2) (a2 - a3) a3 (omega arith))))
-
-  -- a sheet, a line, a term is no more than the sum
-  module _ (f : ℕ → ℕ → ℕ → ℕ → ℕ) (a1 : ℕ) (l1 : a1 ≤ m) where
-    pub sumSimplex-sheet : sumTo (suc a1) (λ a2. sumTo (suc a2) (λ a3. f (m - a1) (a1 - a2) (a2 - a3) a3)) ≤ sumSimplex m f
-    unfolding sumSimplex
-    sumSimplex-sheet = sum-term a1 (suc m) (λ a1. sumTo (suc a1) (λ a2. sumTo (suc a2) (λ a3. f (m - a1) (a1 - a2) (a2 - a3) a3))) (omega arith)
-
-    pub sumSimplex-line : (a2 : ℕ) → a2 ≤ a1 → sumTo (suc a2) (λ a3. f (m - a1) (a1 - a2) (a2 - a3) a3) ≤ sumSimplex m f
-    sumSimplex-line a2 l2 = le-trans (sum-term a2 (suc a1) (λ a2. sumTo (suc a2) (λ a3. f (m - a1) (a1 - a2) (a2 - a3) a3)) (omega arith)) sumSimplex-sheet
-
-    pub sumSimplex-term : (a2 a3 : ℕ) → a2 ≤ a1 → a3 ≤ a2 → f (m - a1) (a1 - a2) (a2 - a3) a3 ≤ sumSimplex m f
-    sumSimplex-term a2 a3 l2 l3 = le-trans (sum-term a3 (suc a2) (λ a3. f (m - a1) (a1 - a2) (a2 - a3) a3) (omega arith)) (sumSimplex-line a2 l2)
-
-  pub sumSimplexZ-abs : (f : ℕ → ℕ → ℕ → ℕ → ℤ) (g : ℕ → ℕ → ℕ → ℕ → ℕ) → ((b0 b1 b2 b3 : ℕ) → b0 + b1 + b2 + b3 ≡ m → natAbs (f b0 b1 b2 b3) ≤ g b0 b1 b2 b3)
-      → natAbs (sumSimplexZ m f) ≤ sumSimplex m g
-  unfolding sumSimplexZ sumSimplex
-  sumSimplexZ-abs f g h =
-      sumZ-abs (suc m) _ _ (λ a1 l1. sumZ-abs (suc a1) _ _ (λ a2 l2. sumZ-abs (suc a2) _ _ (λ a3 l3. h (m - a1) (a1 - a2) (a2 - a3) a3 (omega arith))))
-
-  pub sumSimplex-mul : (c : ℕ) (f : ℕ → ℕ → ℕ → ℕ → ℕ) → sumSimplex m (λ b0 b1 b2 b3. c * f b0 b1 b2 b3) ≡ c * sumSimplex m f
-  unfolding sumSimplex
-  sumSimplex-mul c f =
-      sum-cong (suc m) _ _ (λ a1 l1.
-      sum-cong (suc a1) _ _ (λ a2 l2. sum-mul (suc a2) c (λ a3. f (m - a1) (a1 - a2) (a2 - a3) a3))
-      ∙ sum-mul (suc a1) c (λ a2. sumTo (suc a2) (λ a3. f (m - a1) (a1 - a2) (a2 - a3) a3)))
-      ∙ sum-mul (suc m) c (λ a1. sumTo (suc a1) (λ a2. sumTo (suc a2) (λ a3. f (m - a1) (a1 - a2) (a2 - a3) a3)))
 
   pub sumSimplexZ-mul : (c : ℤ) (f : ℕ → ℕ → ℕ → ℕ → ℤ) → sumSimplexZ m (λ b0 b1 b2 b3. c *ℤ f b0 b1 b2 b3) ≡ c *ℤ sumSimplexZ m f
   unfolding sumSimplexZ
@@ -129,18 +92,3 @@ module _ (m L0 L1 L2 L3 : ℕ) where
   bernstein-constant z =
       sumSimplexZ-mul m z (λ b0 b1 b2 b3. pos (bernstein m L0 L1 L2 L3 b0 b1 b2 b3))
       ∙ ap (λ (x : ℤ). z *ℤ x) (sumSimplexZ-pos m (bernstein m L0 L1 L2 L3) ∙ ap pos bernstein-sum)
-
-  -- the Bernstein sum of numbers of size at most K
-  pub bernstein-le : (K : ℕ) (f : ℕ → ℕ → ℕ → ℕ → ℕ) → ((b0 b1 b2 b3 : ℕ) → b0 + b1 + b2 + b3 ≡ m → f b0 b1 b2 b3 ≤ K)
-      → sumSimplex m (λ b0 b1 b2 b3. f b0 b1 b2 b3 * bernstein m L0 L1 L2 L3 b0 b1 b2 b3) ≤ K * (L0 + L1 + L2 + L3) ^ m
-  bernstein-le K f h =
-      rw (← bernstein-sum, ← sumSimplex-mul m K (bernstein m L0 L1 L2 L3))
-      (sumSimplex-le m _ _ (λ b0 b1 b2 b3 e. mul-le-mul-right (bernstein m L0 L1 L2 L3 b0 b1 b2 b3) (h b0 b1 b2 b3 e)))
-
-  pub bernstein-abs : (K : ℕ) (f : ℕ → ℕ → ℕ → ℕ → ℤ) → ((b0 b1 b2 b3 : ℕ) → b0 + b1 + b2 + b3 ≡ m → natAbs (f b0 b1 b2 b3) ≤ K)
-      → natAbs (sumSimplexZ m (λ b0 b1 b2 b3. f b0 b1 b2 b3 *ℤ pos (bernstein m L0 L1 L2 L3 b0 b1 b2 b3))) ≤ K * (L0 + L1 + L2 + L3) ^ m
-  bernstein-abs K f h =
-      le-trans
-      (sumSimplexZ-abs m _ (λ b0 b1 b2 b3. natAbs (f b0 b1 b2 b3) * bernstein m L0 L1 L2 L3 b0 b1 b2 b3)
-      (λ b0 b1 b2 b3 e. omega (arith, abs-mul (f b0 b1 b2 b3) (pos (bernstein m L0 L1 L2 L3 b0 b1 b2 b3)))))
-      (bernstein-le K (λ b0 b1 b2 b3. natAbs (f b0 b1 b2 b3)) h)

@@ -11,13 +11,6 @@ sheet-index-in w n x y hx hy = let p : w * suc y ≤ w * n = mul-le-mul-left w h
 pub index-in : (w1 w2 w3 x y z : ℕ) → x < w1 → y < w2 → z < w3 → x + w1 * (y + w2 * z) < w1 * w2 * w3
 index-in w1 w2 w3 x y z hx hy hz = omega (arith, sheet-index-in w1 (w2 * w3) x (y + w2 * z) hx (sheet-index-in w2 w3 y z hy hz))
 
--- a place no higher on any axis has an index no higher
-pub index-le : (w1 w2 x y z x′ y′ z′ : ℕ) → x ≤ x′ → y ≤ y′ → z ≤ z′ → x + w1 * (y + w2 * z) ≤ x′ + w1 * (y′ + w2 * z′)
-index-le w1 w2 x y z x′ y′ z′ hx hy hz =
-    let p : w2 * z ≤ w2 * z′ = mul-le-mul-left w2 hz in
-    let q : w1 * (y + w2 * z) ≤ w1 * (y′ + w2 * z′) = mul-le-mul-left w1 (omega arith) in
-    omega arith
-
 -- a box within a box
 pub box-le : {w1 w2 w3 n1 n2 n3 : ℕ} → w1 ≤ n1 → w2 ≤ n2 → w3 ≤ n3 → w1 * w2 * w3 ≤ n1 * n2 * n3
 box-le h1 h2 h3 = mul-le-mul (mul-le-mul h1 h2) h3

@@ -89,17 +89,8 @@ pub +ℤ-*ℤ : (x y z : ℤ) → (x +ℤ y) *ℤ z ≡ x *ℤ z +ℤ y *ℤ z
 pub *ℤ-assoc : (x y z : ℤ) → x *ℤ y *ℤ z ≡ x *ℤ (y *ℤ z)
 *ℤ-assoc x y z = same (is-mul (is-mul (own x) (own y)) (own z)) (is-mul (own x) (is-mul (own y) (own z))) (omega arith)
 
-pub *ℤ-left-comm : (x y z : ℤ) → x *ℤ (y *ℤ z) ≡ y *ℤ (x *ℤ z)
-*ℤ-left-comm x y z = same (is-mul (own x) (is-mul (own y) (own z))) (is-mul (own y) (is-mul (own x) (own z))) (omega arith)
-
-pub +ℤ-left-comm : (x y z : ℤ) → x +ℤ (y +ℤ z) ≡ y +ℤ (x +ℤ z)
-+ℤ-left-comm x y z = same (is-add (own x) (is-add (own y) (own z))) (is-add (own y) (is-add (own x) (own z))) (omega arith)
-
 pub +ℤ-swap : (a b c d : ℤ) → a +ℤ b +ℤ (c +ℤ d) ≡ a +ℤ c +ℤ (b +ℤ d)
 +ℤ-swap a b c d = same (is-add (is-add (own a) (own b)) (is-add (own c) (own d))) (is-add (is-add (own a) (own c)) (is-add (own b) (own d))) (omega arith)
-
-pub negℤ-*ℤ : (x y : ℤ) → negℤ x *ℤ y ≡ negℤ (x *ℤ y)
-negℤ-*ℤ x y = same (is-mul (is-neg (own x)) (own y)) (is-neg (is-mul (own x) (own y))) (omega arith)
 
 pub +ℤ-cancel : (x : ℤ) {y z : ℤ} → x +ℤ y ≡ x +ℤ z → y ≡ z
 +ℤ-cancel x {y} {z} e =

@@ -2,7 +2,7 @@
 use mathlib.Core.Path.{_≡_, refl, sym, ap, ap₂, _∙_}
 use mathlib.Core.Logic.{⊎-elim}
 use Prim.Native.Nat.{ℕ, zero, suc, _+_, _*_, _≤_, _<_}
-use native.Mathlib.Nat.{le-refl, le-trans, le-suc-iff, add-zero, add-suc}
+use native.Mathlib.Nat.{le-refl, le-suc-iff, add-zero, add-suc}
 use native.Mathlib.Numerals.{add-one}
 use native.Mathlib.Omega.{arith}
 use Rattle.sums.specs.Sum.{sumTo, sumBox}
@@ -88,12 +88,6 @@ module _ (n1 n2 n3 : ℕ) where
   unfolding sumBox
   sumBox-le f g h = sum-le n3 _ _ (λ i3 l3. sum-le n2 _ _ (λ i2 l2. sum-le n1 _ _ (λ i1 l1. h i1 i2 i3 l1 l2 l3)))
 
-  pub sumBox-term : (i1 i2 i3 : ℕ) (f : ℕ → ℕ → ℕ → ℕ) → i1 < n1 → i2 < n2 → i3 < n3 → f i1 i2 i3 ≤ sumBox n1 n2 n3 f
-  unfolding sumBox
-  sumBox-term i1 i2 i3 f l1 l2 l3 =
-      le-trans (sum-term i1 n1 (λ j1. f j1 i2 i3) l1)
-      (le-trans (sum-term i2 n2 (λ j2. sumTo n1 (λ j1. f j1 j2 i3)) l2) (sum-term i3 n3 (λ j3. sumTo n2 (λ j2. sumTo n1 (λ j1. f j1 j2 j3))) l3))
-
   pub sumBox-add : (f g : ℕ → ℕ → ℕ → ℕ) → sumBox n1 n2 n3 (λ i1 i2 i3. f i1 i2 i3 + g i1 i2 i3) ≡ sumBox n1 n2 n3 f + sumBox n1 n2 n3 g
   unfolding sumBox
   sumBox-add f g =
@@ -118,15 +112,6 @@ module _ (n1 n2 n3 : ℕ) where
 
   pub sumBox-nil : sumBox n1 n2 n3 (λ i1 i2 i3. 0) ≡ 0
   sumBox-nil = sumBox-const 0 ∙ omega arith
-
-  -- a sum of sums over the box, the other way round
-  pub sumBox-swap : (m : ℕ) (f : ℕ → ℕ → ℕ → ℕ → ℕ) → sumTo m (λ k. sumBox n1 n2 n3 (f k)) ≡ sumBox n1 n2 n3 (λ i1 i2 i3. sumTo m (λ k. f k i1 i2 i3))
-  unfolding sumBox
-  sumBox-swap m f =
-      sum-swap m n3 (λ k i3. sumTo n2 (λ i2. sumTo n1 (λ i1. f k i1 i2 i3)))
-      ∙ sum-cong n3 _ _ (λ i3 l3.
-      sum-swap m n2 (λ k i2. sumTo n1 (λ i1. f k i1 i2 i3))
-      ∙ sum-cong n2 _ _ (λ i2 l2. sum-swap m n1 (λ k i1. f k i1 i2 i3)))
 
 -- the sum over a box of a product of three is the product of three sums
 pub sumBox-product : (n1 n2 n3 : ℕ) (f g h : ℕ → ℕ) → sumBox n1 n2 n3 (λ i1 i2 i3. f i1 * g i2 * h i3) ≡ sumTo n1 f * sumTo n2 g * sumTo n3 h

@@ -1,13 +1,13 @@
 -- Laws of finite sums over ℤ, and their sizes.
 use mathlib.Core.Path.{_≡_, refl, sym, ap, ap₂, _∙_}
 use Prim.Native.Nat.{ℕ, zero, suc, _+_, _*_, _≤_, _<_}
-use native.Mathlib.Nat.{le-refl, mul-one, mul-le-mul-left, add-zero, add-suc}
+use native.Mathlib.Nat.{le-refl, mul-le-mul-left, add-zero, add-suc}
 use native.Mathlib.Numerals.{add-one}
 use native.Mathlib.Omega.{arith}
 use lib.IntN.{ℤ, pos, _+ℤ_, _*ℤ_, natAbs, +ℤ-idr, +ℤ-idl, +ℤ-assoc, *ℤ-zero, *ℤ-comm, zero-*ℤ, sucℤ-*ℤ}
 use Rattle.sums.specs.Sum.{sumTo, sumZ, sumBox, sumBoxZ}
-use Rattle.sums.proofs.Sum.{sum-mul, sumBox-mul, sumBox-const}
-use Rattle.sums.proofs.Signed.{Is, is-pos, is-add, is-mul, own, same, +ℤ-swap, *ℤ-+ℤ, +ℤ-*ℤ, abs-add, abs-mul}
+use Rattle.sums.proofs.Sum.{sum-mul, sumBox-mul}
+use Rattle.sums.proofs.Signed.{Is, is-pos, is-add, +ℤ-swap, *ℤ-+ℤ, +ℤ-*ℤ, abs-add, abs-mul}
 
 pub sumZ-zero : (f : ℕ → ℤ) → sumZ 0 f ≡ pos 0
 unfolding sumZ
@@ -100,14 +100,6 @@ module _ (n1 n2 n3 : ℕ) where
   unfolding sumBoxZ
   sumBoxZ-cong f g h = sumZ-cong n3 _ _ (λ i3 l3. sumZ-cong n2 _ _ (λ i2 l2. sumZ-cong n1 _ _ (λ i1 l1. h i1 i2 i3 l1 l2 l3)))
 
-  pub sumBoxZ-add : (f g : ℕ → ℕ → ℕ → ℤ) → sumBoxZ n1 n2 n3 (λ i1 i2 i3. f i1 i2 i3 +ℤ g i1 i2 i3) ≡ sumBoxZ n1 n2 n3 f +ℤ sumBoxZ n1 n2 n3 g
-  unfolding sumBoxZ
-  sumBoxZ-add f g =
-      sumZ-cong n3 _ _ (λ i3 l3.
-      sumZ-cong n2 _ _ (λ i2 l2. sumZ-add n1 (λ i1. f i1 i2 i3) (λ i1. g i1 i2 i3))
-      ∙ sumZ-add n2 (λ i2. sumZ n1 (λ i1. f i1 i2 i3)) (λ i2. sumZ n1 (λ i1. g i1 i2 i3)))
-      ∙ sumZ-add n3 (λ i3. sumZ n2 (λ i2. sumZ n1 (λ i1. f i1 i2 i3))) (λ i3. sumZ n2 (λ i2. sumZ n1 (λ i1. g i1 i2 i3)))
-
   -- a common factor, on either side
   pub sumBoxZ-mul : (c : ℤ) (f : ℕ → ℕ → ℕ → ℤ) → sumBoxZ n1 n2 n3 (λ i1 i2 i3. c *ℤ f i1 i2 i3) ≡ c *ℤ sumBoxZ n1 n2 n3 f
   unfolding sumBoxZ
@@ -120,9 +112,6 @@ module _ (n1 n2 n3 : ℕ) where
   pub sumBoxZ-mulr : (c : ℤ) (f : ℕ → ℕ → ℕ → ℤ) → sumBoxZ n1 n2 n3 (λ i1 i2 i3. f i1 i2 i3 *ℤ c) ≡ sumBoxZ n1 n2 n3 f *ℤ c
   sumBoxZ-mulr c f = sumBoxZ-cong _ _ (λ i1 i2 i3 l1 l2 l3. *ℤ-comm (f i1 i2 i3) c) ∙ sumBoxZ-mul c f ∙ *ℤ-comm c (sumBoxZ n1 n2 n3 f)
 
-  pub sumBoxZ-nil : sumBoxZ n1 n2 n3 (λ i1 i2 i3. pos 0) ≡ pos 0
-  sumBoxZ-nil = sumBoxZ-mul (pos 0) (λ i1 i2 i3. pos 0) ∙ zero-*ℤ (sumBoxZ n1 n2 n3 (λ i1 i2 i3. pos 0))
-
   pub sumBoxZ-pos : (f : ℕ → ℕ → ℕ → ℕ) → sumBoxZ n1 n2 n3 (λ i1 i2 i3. pos (f i1 i2 i3)) ≡ pos (sumBox n1 n2 n3 f)
   unfolding sumBoxZ sumBox
   sumBoxZ-pos f =
@@ -130,22 +119,6 @@ module _ (n1 n2 n3 : ℕ) where
       sumZ-cong n2 _ _ (λ i2 l2. sumZ-pos n1 (λ i1. f i1 i2 i3))
       ∙ sumZ-pos n2 (λ i2. sumTo n1 (λ i1. f i1 i2 i3)))
       ∙ sumZ-pos n3 (λ i3. sumTo n2 (λ i2. sumTo n1 (λ i1. f i1 i2 i3)))
-
-  pub sumBoxZ-const : (c : ℤ) → sumBoxZ n1 n2 n3 (λ i1 i2 i3. c) ≡ pos (n1 * n2 * n3) *ℤ c
-  sumBoxZ-const c =
-      let n : sumBox n1 n2 n3 (λ i1 i2 i3. 1) ≡ n1 * n2 * n3 = sumBox-const n1 n2 n3 1 ∙ mul-one (n1 * n2 * n3) in
-      sumBoxZ-cong _ _ (λ i1 i2 i3 l1 l2 l3. same (own c) (is-mul (is-pos 1) (own c)) (omega arith))
-      ∙ sumBoxZ-mulr c (λ i1 i2 i3. pos 1)
-      ∙ ap (λ (z : ℤ). z *ℤ c) (sumBoxZ-pos (λ i1 i2 i3. 1) ∙ ap pos n)
-
-  -- a sum of sums over the box, the other way round
-  pub sumBoxZ-swap : (m : ℕ) (f : ℕ → ℕ → ℕ → ℕ → ℤ) → sumZ m (λ k. sumBoxZ n1 n2 n3 (f k)) ≡ sumBoxZ n1 n2 n3 (λ i1 i2 i3. sumZ m (λ k. f k i1 i2 i3))
-  unfolding sumBoxZ
-  sumBoxZ-swap m f =
-      sumZ-swap m n3 (λ k i3. sumZ n2 (λ i2. sumZ n1 (λ i1. f k i1 i2 i3)))
-      ∙ sumZ-cong n3 _ _ (λ i3 l3.
-      sumZ-swap m n2 (λ k i2. sumZ n1 (λ i1. f k i1 i2 i3))
-      ∙ sumZ-cong n2 _ _ (λ i2 l2. sumZ-swap m n1 (λ k i1. f k i1 i2 i3)))
 
   pub sumBoxZ-abs : (f : ℕ → ℕ → ℕ → ℤ) (g : ℕ → ℕ → ℕ → ℕ) → ((i1 i2 i3 : ℕ) → i1 < n1 → i2 < n2 → i3 < n3 → natAbs (f i1 i2 i3) ≤ g i1 i2 i3)
       → natAbs (sumBoxZ n1 n2 n3 f) ≤ sumBox n1 n2 n3 g

@@ -8,7 +8,7 @@ use denote.Ref.{now}
 use mir.Facts.{toZ-ofZ}
 use mir.Syntax.{w32}
 use mir.Val.{SFits}
-use Rattle.sums.proofs.Accumulator.{fits}
+use Rattle.sums.proofs.MachineSizes.{fits}
 use Rattle.spline.specs.Build.{direction}
 use Rattle.spline.specs.Place.{a1, a2, a3}
 use Rattle.shape.specs.Shape.{widths}

@@ -9,7 +9,7 @@ use denote.Ref.{now}
 use mir.Facts.{toZ-ofZ}
 use mir.Syntax.{w32}
 use mir.Val.{SFits, ofZ, toZ}
-use Rattle.sums.proofs.Accumulator.{fits}
+use Rattle.sums.proofs.MachineSizes.{fits}
 use Rattle.sums.proofs.Fill.{fill-none, fill-store}
 use Rattle.sums.proofs.Places.{place-in}
 use Rattle.sums.specs.Fill.{filled}

@@ -2,7 +2,7 @@ use mathlib.Core.Path.{refl}
 use native.Mathlib.Omega.{arith}
 use borrow.Author.Needs.{needs}
 use mir.Syntax.{w64}
-use Rattle.sums.proofs.Accumulator.{mul-fits, mul-read}
+use Rattle.sums.proofs.MachineSizes.{mul-fits, mul-read}
 use Rattle.point.proofs.bernstein.term.Statement.{statement}
 use Rattle.point.proofs.bernstein.term.Tie as tie
 

@@ -6,7 +6,7 @@ use lib.IntN.{*ℤ-comm, natAbs, pos}
 use mir.Facts.{sfits-widen, toZ-ofZ}
 use mir.Syntax.{w16, w64}
 use mir.Val.{SFits}
-use Rattle.sums.proofs.Accumulator.{fits-size, mul-fits, mul-read}
+use Rattle.sums.proofs.MachineSizes.{fits-size, mul-fits, mul-read}
 use Rattle.point.proofs.Sweep.{entry-correction, entry-uncertainty, small-entry}
 use Rattle.point.proofs.window.entry_sums.Statement.{statement}
 use Rattle.point.proofs.window.entry_sums.Tie as tie
