@@ -1,9 +1,9 @@
 -- Sums over the window as a loop makes them, and their sizes.
-use mathlib.Core.Path.{_≡_, refl}
+use mathlib.Core.Path.{_∙_, _≡_, ap, refl}
 use Prim.Native.Nat.{_*_, _+_, _<_, _^_, _≤_, ℕ}
-use native.Mathlib.Nat.{mul-le-mul}
+use native.Mathlib.Nat.{add-assoc, add-zero, mul-le-mul}
 use native.Mathlib.Omega.{arith}
-use lib.IntN.{natAbs, pos, ℤ}
+use lib.IntN.{+ℤ-assoc, +ℤ-idr, natAbs, pos, ℤ}
 use mir.Syntax.{w16}
 use mir.Val.{SFits}
 use Rattle.sums.proofs.MachineSizes.{fits-size}
@@ -22,6 +22,20 @@ pub sums-next : (f : ℕ → Sums) (i : ℕ) {t s : Sums} → t ≡ sumsTo i f �
 unfolding sumsTo
 sums-next f i e d =
     rw (e, d, sum-next i (λ j. f j .shares), sumZ-next i (λ j. f j .corrections), sum-next i (λ j. f j .uncertainties)) refl
+
+-- the same on top of the sums so far
+add-none : (from : Sums) → from ≡ addSums from (sums 0 (pos 0) 0)
+add-none from = rw (add-zero (from .shares), +ℤ-idr (from .corrections), add-zero (from .uncertainties)) refl
+
+add-assoc-sums : (a b c : Sums) → addSums (addSums a b) c ≡ addSums a (addSums b c)
+add-assoc-sums a b c =
+    rw (add-assoc (a .shares) (b .shares) (c .shares), +ℤ-assoc (a .corrections) (b .corrections) (c .corrections), add-assoc (a .uncertainties) (b .uncertainties) (c .uncertainties)) refl
+
+pub sums-start : (f : ℕ → Sums) (from : Sums) → from ≡ addSums from (sumsTo 0 f)
+sums-start f from = add-none from ∙ ap (addSums from) (sums-none f)
+
+pub sums-on : (f : ℕ → Sums) (i : ℕ) (from : Sums) {t s : Sums} → t ≡ addSums from (sumsTo i f) → s ≡ f i → addSums t s ≡ addSums from (sumsTo (i + 1) f)
+sums-on f i from {t} {s} e d = ap (λ (r : Sums). addSums r s) e ∙ add-assoc-sums from (sumsTo i f) s ∙ ap (addSums from) (sums-next f i refl d)
 
 pub small-none : Small 0 (sums 0 (pos 0) 0)
 small-none = record { shares-small = omega arith; corrections-small = omega arith; uncertainties-small = omega arith }

@@ -1,6 +1,6 @@
 // The window of a point: the sums over it at one local place, and the search for a gap in it.
 ghost use mathlib.Core.Path.{_≡_};
-ghost use Prim.Native.Nat.{_+_, _*_, _≤_};
+ghost use Prim.Native.Nat.{ℕ, _+_, _*_, _≤_};
 ghost use mathlib.Core.Bool.{false};
 ghost use lib.ListN.{length};
 ghost use lib.IntN.{natAbs};
@@ -45,8 +45,9 @@ fn added(s: Sums, t: Sums) -> Sums
     }
 }
 
-// A row of the window: shares m apart upwards, entries downwards.
+// The sums so far and a row of the window: shares m apart upwards, entries downwards.
 fn row_sums(
+    from: Sums,
     net: &[u32],
     corrections: &[i16],
     uncertainties: &[u16],
@@ -55,14 +56,11 @@ fn row_sums(
     at: usize,
     entry: usize,
 ) -> Sums
-    requires { ⌜ InRow (length (now net)) (length (now corrections)) (length (now uncertainties)) m count at entry ⌝ }
-    ensures { λ r. ⌜ (r ≡ rowSums (numberAt (now (net .entry))) (signedAt (now (corrections .entry))) (numberAt (now (uncertainties .entry))) m count at entry) × Small 16 r ⌝ }
+    requires { ⌜ InRow (length (now net)) (length (now corrections)) (length (now uncertainties)) m count at entry × Small 4080 from ⌝ }
+    ensures { λ r. ⌜ r ≡ addSums from (rowSums (numberAt (now (net .entry))) (signedAt (now (corrections .entry))) (numberAt (now (uncertainties .entry))) m count at entry) ⌝ }
+    ensures { λ r. ⌜ ((n : ℕ) → Small n from → Small (n + 16) r) ⌝ }
 {
-    let mut t = Sums {
-        shares: 0,
-        corrections: 0,
-        uncertainties: 0,
-    };
+    let mut t = from;
     let mut i = 0;
     while i < count {
         t = added(
@@ -78,8 +76,9 @@ fn row_sums(
     t
 }
 
-// The rows of one j3, where y is n2×j3.
+// The sums so far and the rows of one j3, where y is n2×j3.
 fn plane_sums(
+    from: Sums,
     net: &[u32],
     corrections: &[i16],
     uncertainties: &[u16],
@@ -87,8 +86,9 @@ fn plane_sums(
     at: usize,
     y: usize,
 ) -> Sums
-    requires { ⌜ InPlane (length (now net)) (length (now corrections)) (length (now uncertainties)) f at y ⌝ }
-    ensures { λ r. ⌜ (r ≡ planeSums (numberAt (now (net .entry))) (signedAt (now (corrections .entry))) (numberAt (now (uncertainties .entry))) f at y) × Small 256 r ⌝ }
+    requires { ⌜ InPlane (length (now net)) (length (now corrections)) (length (now uncertainties)) f at y × Small 3840 from ⌝ }
+    ensures { λ r. ⌜ r ≡ addSums from (planeSums (numberAt (now (net .entry))) (signedAt (now (corrections .entry))) (numberAt (now (uncertainties .entry))) f at y) ⌝ }
+    ensures { λ r. ⌜ ((n : ℕ) → Small n from → Small (n + 256) r) ⌝ }
 {
     let m = f.m;
     let step = m * f.w1;
@@ -97,24 +97,18 @@ fn plane_sums(
     let n1 = f.n1;
     let k1 = f.k1;
     let k2 = f.k2;
-    let mut t = Sums {
-        shares: 0,
-        corrections: 0,
-        uncertainties: 0,
-    };
+    let mut t = from;
     let mut i = 0;
     while i < rows {
-        t = added(
+        t = row_sums(
             t,
-            row_sums(
-                net,
-                corrections,
-                uncertainties,
-                m,
-                count,
-                at + step * i,
-                k1 + n1 * (k2 - i + y),
-            ),
+            net,
+            corrections,
+            uncertainties,
+            m,
+            count,
+            at + step * i,
+            k1 + n1 * (k2 - i + y),
         );
         i += 1;
     }
@@ -143,16 +137,14 @@ pub(crate) fn window_sums(
     };
     let mut i = 0;
     while i < planes {
-        t = added(
+        t = plane_sums(
             t,
-            plane_sums(
-                net,
-                corrections,
-                uncertainties,
-                f,
-                at + step * i,
-                n2 * (k3 - i),
-            ),
+            net,
+            corrections,
+            uncertainties,
+            f,
+            at + step * i,
+            n2 * (k3 - i),
         );
         i += 1;
     }

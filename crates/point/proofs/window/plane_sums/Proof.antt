@@ -1,17 +1,17 @@
-use mathlib.Core.Path.{_∙_, _≡_}
-use Prim.Native.Nat.{_*_, _+_, _-_, _≤_}
+use mathlib.Core.Path.{_∙_, _≡_, refl}
+use Prim.Native.Nat.{_*_, _+_, _-_, _≤_, ℕ}
 use native.Mathlib.Nat.{mul-le-mul}
 use native.Mathlib.Omega.{arith}
 use lib.IntN.{pos}
 use lib.ListN.{getD, length}
-use Rattle.point.proofs.Sweep.{small-add, small-more, small-none, sums-next, sums-none}
+use Rattle.point.proofs.Sweep.{small-more, sums-on, sums-start}
 use Rattle.point.proofs.window.plane_sums.Statement.{statement}
 use Rattle.point.specs.Answer.{numberAt}
-use Rattle.point.specs.Window.{InRow, Small, planeSums, rowSums, sumsTo}
+use Rattle.point.specs.Window.{InRow, Small, addSums, planeSums, rowSums, sumsTo}
 use Rattle.point.proofs.window.plane_sums.Tie as tie
 
 abbrev Inv-loop : tie.InvT-loop
-Inv-loop net corrections uncertainties at y m step count rows n1 k1 k2 t₀ i₀ t i = (i ≤ rows) × (t ≡ sumsTo i (λ j. rowSums (numberAt net) (λ k. getD corrections k (pos 0)) (numberAt uncertainties) m count (at + step * j) (k1 + n1 * (k2 - j + y)))) × Small (i * 16) t
+Inv-loop net corrections uncertainties at y m step count rows n1 k1 k2 t₀ i₀ t i = (i ≤ rows) × (t ≡ addSums t₀ (sumsTo i (λ j. rowSums (numberAt net) (λ k. getD corrections k (pos 0)) (numberAt uncertainties) m count (at + step * j) (k1 + n1 * (k2 - j + y))))) × ((n : ℕ) → Small n t₀ → Small (n + i * 16) t)
 
 abbrev μ-loop : tie.MeasureT-loop
 μ-loop net corrections uncertainties at y m step count rows n1 k1 k2 t₀ i₀ t i = rows - i
@@ -23,20 +23,20 @@ module _ (c : tie.In-loop Inv-loop μ-loop) where
   -- the row of this turn
   here : (let a = start .args in let f = a .f in let i = c .before .loop .i in
       InRow (length (a .net .now)) (length (a .corrections .now)) (length (a .uncertainties .now)) (f .m) (f .e1) (a .at + f .m * f .w1 * i) (f .k1 + f .n1 * (f .k2 - i + a .y)))
-  here = start .pre .rows (c .before .loop .i) (c .loop-test .taken)
+  here = start .pre .0 .rows (c .before .loop .i) (c .loop-test .taken)
 
   entry-small : start .args .f .n1 * (start .args .f .k2 - c .before .loop .i + start .args .y) ≤ 64 * 4160
   entry-small =
-      let p = start .pre in
+      let p = start .pre .0 in
       let l = p .limits in
       let b : start .args .f .k2 - c .before .loop .i + start .args .y ≤ 4160 = omega arith in
       mul-le-mul (l .size1) b
 
 mul-step : tie.Need-mul-step Inv-loop μ-loop
-mul-step c = omega (arith, mul-le-mul (c .before .before .before .pre .limits .degree) (c .before .before .before .pre .limits .width1))
+mul-step c = omega (arith, mul-le-mul (c .before .before .before .pre .0 .limits .degree) (c .before .before .before .pre .0 .limits .width1))
 
 loop-holds : tie.Need-loop-holds Inv-loop μ-loop
-loop-holds c = (omega arith, sums-none _, small-none)
+loop-holds c = (omega arith, sums-start _ (c .before .before .before .args .from), λ n h. small-more (n + 0 * 16) h (omega arith))
 
 mul-row-sums : tie.Need-mul-row-sums Inv-loop μ-loop
 mul-row-sums c = omega (arith, here c .start)
@@ -45,22 +45,19 @@ add-row-sums : tie.Need-add-row-sums Inv-loop μ-loop
 add-row-sums c = omega (arith, here c .start)
 
 sub-row-sums : tie.Need-sub-row-sums Inv-loop μ-loop
-sub-row-sums c = let l = c .before .before .before .before .before .pre .limits in omega arith
+sub-row-sums c = let l = c .before .before .before .before .before .pre .0 .limits in omega arith
 
 add-row-sums-2 : tie.Need-add-row-sums-2 Inv-loop μ-loop
-add-row-sums-2 c = let p = c .before .before .before .before .before .pre in let l = p .limits in omega arith
+add-row-sums-2 c = let p = c .before .before .before .before .before .pre .0 in let l = p .limits in omega arith
 
 mul-row-sums-2 : tie.Need-mul-row-sums-2 Inv-loop μ-loop
 mul-row-sums-2 c = omega (arith, entry-small c)
 
 add-row-sums-3 : tie.Need-add-row-sums-3 Inv-loop μ-loop
-add-row-sums-3 c = let l = c .before .before .before .before .before .pre .limits in omega (arith, entry-small c)
+add-row-sums-3 c = let l = c .before .before .before .before .before .pre .0 .limits in omega (arith, entry-small c)
 
 row-sums-requires : tie.Need-row-sums-requires Inv-loop μ-loop
-row-sums-requires c κs = here c
-
-added-requires : tie.Need-added-requires Inv-loop μ-loop
-added-requires c κs = let l = c .before .before .before .before .before .before .pre .limits in (small-more 4096 (c .before .before .loop .inv .2) (omega arith), small-more 4096 (c .row-sums .ensures .1) (omega arith))
+row-sums-requires c κs = (here c, small-more 4080 (c .before .loop .inv .2 3840 (start c .pre .1)) (let l = start c .pre .0 .limits in omega arith))
 
 add-i : tie.Need-add-i Inv-loop μ-loop
 add-i c = omega arith
@@ -70,16 +67,19 @@ loop-less c = omega arith
 
 loop-again : tie.Need-loop-again Inv-loop μ-loop
 loop-again c =
-    let at = c .before .before .before .loop in
-    (omega arith, c .added .ensures ∙ sums-next _ (at .i) (at .inv .1) (c .before .row-sums .ensures .0), rw (c .added .ensures) (small-add ((at .i + 1) * 16) (at .inv .2) (c .before .row-sums .ensures .1) (omega arith)))
+    let s = c .before .before .before .before .before .before in
+    let at = c .before .before .loop in
+    let r = c .row-sums .ensures in
+    (omega arith, r .0 ∙ sums-on _ (at .i) (s .args .from) (at .inv .1) refl, λ n h. small-more (n + (at .i + 1) * 16) (r .1 (n + at .i * 16) (at .inv .2 n h)) (omega arith))
 
 returns : tie.Need-returns Inv-loop μ-loop
 unfolding planeSums
-returns c = let s = c .before .before .before .before .before in
+returns c =
+    let s = c .before .before .before .before .before in
     let at = c .before .loop in
     let e : at .i ≡ s .args .f .e2 = omega arith in
-    let l = s .pre .limits in
-    rw (← e) (at .inv .1, small-more 256 (at .inv .2) (omega arith))
+    let l = s .pre .0 .limits in
+    (rw (← e) (at .inv .1), λ n h. small-more (n + 256) (at .inv .2 n h) (omega arith))
 
 pub plane-sums-spec : {M : Type 1} → statement M
 plane-sums-spec =
@@ -96,7 +96,6 @@ plane-sums-spec =
     mul-row-sums-2
     add-row-sums-3
     row-sums-requires
-    added-requires
     add-i
     loop-less
     loop-again

@@ -8,10 +8,10 @@ use lib.ListN.{getD, length}
 use mir.Facts.{toZ-ofZ}
 use mir.Syntax.{w16}
 use mir.Val.{SFits}
-use Rattle.point.proofs.Sweep.{small-add, small-more, small-none, sums-next, sums-none}
+use Rattle.point.proofs.Sweep.{small-add, small-more, sums-on, sums-start}
 use Rattle.point.proofs.window.row_sums.Statement.{statement}
 use Rattle.point.specs.Answer.{numberAt}
-use Rattle.point.specs.Window.{Small, entrySums, rowSums, sumsTo}
+use Rattle.point.specs.Window.{Small, addSums, entrySums, rowSums, sumsTo}
 use Rattle.point.specs.declared.window.Sums.{Sums}
 use Rattle.point.proofs.window.row_sums.Tie as tie
 
@@ -19,16 +19,16 @@ abbrev entries : List ℕ → List ℤ → List ℕ → ℕ → ℕ → ℕ → 
 entries net corrections uncertainties m at entry i = entrySums (numberAt net (at + m * i)) (getD corrections (entry - i) (pos 0)) (numberAt uncertainties (entry - i))
 
 abbrev Inv-loop : tie.InvT-loop
-Inv-loop net corrections uncertainties m count at entry t₀ i₀ t i = (i ≤ count) × (t ≡ sumsTo i (entries net corrections uncertainties m at entry)) × Small i t
+Inv-loop net corrections uncertainties m count at entry t₀ i₀ t i = (i ≤ count) × (t ≡ addSums t₀ (sumsTo i (entries net corrections uncertainties m at entry))) × ((n : ℕ) → Small n t₀ → Small (n + i) t)
 
 abbrev μ-loop : tie.MeasureT-loop
 μ-loop net corrections uncertainties m count at entry t₀ i₀ t i = count - i
 
 loop-holds : tie.Need-loop-holds Inv-loop μ-loop
-loop-holds c = (omega arith, sums-none _, small-none)
+loop-holds c = (omega arith, sums-start _ (c .before .before .args .from), λ n h. small-more (n + 0) h (omega arith))
 
 up : (c : tie.In-loop Inv-loop μ-loop) → (let s = c .before .before .before .before in s .args .at + s .args .m * c .before .loop .i < length (s .args .net .now))
-up c = c .before .before .before .before .pre .in-net (c .before .loop .i) (c .loop-test .taken)
+up c = c .before .before .before .before .pre .0 .in-net (c .before .loop .i) (c .loop-test .taken)
 
 mul-entry-sums : tie.Need-mul-entry-sums Inv-loop μ-loop
 mul-entry-sums c = omega (arith, up c)
@@ -64,7 +64,10 @@ entry-sums-requires : tie.Need-entry-sums-requires Inv-loop μ-loop
 entry-sums-requires c κs = search needs
 
 added-requires : tie.Need-added-requires Inv-loop μ-loop
-added-requires c κs = (small-more 4096 (c .before .before .before .before .before .loop .inv .2) (let h = c .before .before .before .before .before .before .before .before .pre in omega arith), small-more 4096 (c .entry-sums .ensures .1) (omega arith))
+added-requires c κs =
+    let s = c .before .before .before .before .before .before .before .before in
+    let at = c .before .before .before .before .before .loop in
+    (small-more 4096 (at .inv .2 4080 (s .pre .1)) (let h = s .pre .0 .few in omega arith), small-more 4096 (c .entry-sums .ensures .1) (omega arith))
 
 add-i : tie.Need-add-i Inv-loop μ-loop
 add-i c = omega arith
@@ -79,14 +82,15 @@ loop-again c =
     let f : SFits w16 (getD (s .args .corrections .now) (s .args .entry - at .i) (pos 0)) = record { sfits = c .before .before .before .entry-sums-arg .given } in
     let e : c .before .entry-sums .result ≡ entries (s .args .net .now) (s .args .corrections .now) (s .args .uncertainties .now) (s .args .m) (s .args .at) (s .args .entry) (at .i) =
     simp toZ-ofZ at (c .before .entry-sums .ensures .0) in
-    (omega arith, c .added .ensures ∙ sums-next _ (at .i) (at .inv .1) e, rw (c .added .ensures) (small-add (at .i + 1) (at .inv .2) (c .before .entry-sums .ensures .1) (omega arith)))
+    (omega arith, c .added .ensures ∙ sums-on _ (at .i) (s .args .from) (at .inv .1) e, λ n h. rw (c .added .ensures) (small-add (n + (at .i + 1)) (at .inv .2 n h) (c .before .entry-sums .ensures .1) (omega arith)))
 
 returns : tie.Need-returns Inv-loop μ-loop
 unfolding rowSums
-returns c = let s = c .before .before .before .before in
+returns c =
+    let s = c .before .before .before .before in
     let at = c .before .loop in
     let e : at .i ≡ s .args .count = omega arith in
-    (at .inv .1 ∙ ap (λ (n : ℕ). sumsTo n (entries (s .args .net .now) (s .args .corrections .now) (s .args .uncertainties .now) (s .args .m) (s .args .at) (s .args .entry))) e, small-more 16 (at .inv .2) (let h = s .pre in omega arith))
+    (at .inv .1 ∙ ap (λ (n : ℕ). addSums (s .args .from) (sumsTo n (entries (s .args .net .now) (s .args .corrections .now) (s .args .uncertainties .now) (s .args .m) (s .args .at) (s .args .entry)))) e, λ n h. small-more (n + 16) (at .inv .2 n h) (let l = s .pre .0 .few in omega arith))
 
 pub row-sums-spec : {M : Type 1} → statement M
 row-sums-spec =

@@ -1,10 +1,10 @@
-use mathlib.Core.Path.{_∙_, _≡_}
+use mathlib.Core.Path.{_∙_, _≡_, refl}
 use Prim.Native.Nat.{_*_, _+_, _-_, _≤_, ℕ}
 use native.Mathlib.Nat.{mul-le-mul}
 use native.Mathlib.Omega.{arith}
 use lib.IntN.{pos}
 use lib.ListN.{getD, length}
-use Rattle.point.proofs.Sweep.{small-add, small-more, small-none, sums-next, sums-none}
+use Rattle.point.proofs.Sweep.{small-more, small-none, sums-next, sums-none}
 use Rattle.point.proofs.window.window_sums.Statement.{statement}
 use Rattle.point.specs.Answer.{numberAt}
 use Rattle.point.specs.Window.{InPlane, Small, planeSums, sumsTo, windowSums}
@@ -49,10 +49,7 @@ mul-plane-sums-2 : tie.Need-mul-plane-sums-2 Inv-loop μ-loop
 mul-plane-sums-2 c = omega (arith, here c .layer)
 
 plane-sums-requires : tie.Need-plane-sums-requires Inv-loop μ-loop
-plane-sums-requires c κs = here c
-
-added-requires : tie.Need-added-requires Inv-loop μ-loop
-added-requires c κs = let l = c .before .before .before .before .before .before .before .pre .limits in (small-more 4096 (c .before .before .loop .inv .2) (omega arith), small-more 4096 (c .plane-sums .ensures .1) (omega arith))
+plane-sums-requires c κs = (here c, small-more 3840 (c .before .loop .inv .2) (let l = c .before .before .before .before .before .before .pre .limits in omega arith))
 
 add-i : tie.Need-add-i Inv-loop μ-loop
 add-i c = omega arith
@@ -62,8 +59,9 @@ loop-less c = omega arith
 
 loop-again : tie.Need-loop-again Inv-loop μ-loop
 loop-again c =
-    let at = c .before .before .before .loop in
-    (omega arith, c .added .ensures ∙ sums-next _ (at .i) (at .inv .1) (c .before .plane-sums .ensures .0), rw (c .added .ensures) (small-add ((at .i + 1) * 256) (at .inv .2) (c .before .plane-sums .ensures .1) (omega arith)))
+    let at = c .before .before .loop in
+    let r = c .plane-sums .ensures in
+    (omega arith, r .0 ∙ sums-next _ (at .i) (at .inv .1) refl, small-more ((at .i + 1) * 256) (r .1 (at .i * 256) (at .inv .2)) (omega arith))
 
 returns : tie.Need-returns Inv-loop μ-loop
 unfolding windowSums
@@ -88,7 +86,6 @@ window-sums-spec =
     sub-plane-sums
     mul-plane-sums-2
     plane-sums-requires
-    added-requires
     add-i
     loop-less
     loop-again
