@@ -1,8 +1,13 @@
 pub mod Coordinates
 pub mod LoweredPlaces
+pub mod Bounds
+pub mod Cells
+pub mod NearPlaces
+pub mod DifferenceRows
+pub mod RowEnds
 pub mod EdgeSums
+pub mod LineRows
 pub mod Telescope
 pub mod Orders
-pub mod Bounds
 pub mod TakenUp
 pub mod Accepted

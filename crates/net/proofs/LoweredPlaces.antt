@@ -1,19 +1,16 @@
 -- The difference at a place of the box, in natural numbers.
-use mathlib.Core.List.{List}
 use mathlib.Core.Path.{_∙_, _≡_, ap, ap₂, fun-ext, refl, sym}
 use Prim.Native.Nat.{_%_, _*_, _+_, _-_, _/_, _≤_, suc, ℕ}
 use native.Mathlib.Nat.{mod-lt, zero-lt-suc}
-use native.Mathlib.Numerals.{add-one}
 use native.Mathlib.Omega.{arith}
 use lib.IntN.{_-ℤ_, pos, subℕ}
 use Rattle.spline.proofs.Lowering.{below-stays, lowered-whole-back}
 use Rattle.spline.proofs.Steps.{back, lowered-back}
-use Rattle.spline.specs.Box.{spread}
 use Rattle.spline.specs.Build.{loweredPlace}
 use Rattle.spline.specs.Place.{Axis, Direction, Net, Place, _⊖_, a1, a2, a3, along, diagonal, moves, place}
 use Rattle.spline.specs.Rule.{cell, composed, lowerAbove, lowered, remainder}
 use Rattle.net.proofs.Coordinates.{back-all, back-both, down-cell}
-use Rattle.net.specs.Step.{component, difference, loweredCoordinate, pivotOf, readBack}
+use Rattle.net.specs.Step.{component, difference, loweredCoordinate, pivotOf}
 
 -- the pivot lowers as the rule does
 lowered-pivot : (d : Direction) (g : ℕ) (u : Axis → ℕ) → ((b : Axis) → u b ≤ g) → (b : Axis) → lowered d u b ≡ lowerAbove (pivotOf d (u a1) (u a2) (u a3) (suc g)) (u b)
@@ -47,7 +44,7 @@ module _ (d : Direction) (g : ℕ) (G : Net) (x y z : ℕ) where
   up a2 = y + suc g - component d a2
   up a3 = z + suc g - component d a3
 
-  abbrev lows : Axis → ℕ
+  abbrev pub lows : Axis → ℕ
   lows = low d g up
 
   back-cell : q ⊖ d ≡ back diagonal (suc g) (λ b. pos (up b))
@@ -82,12 +79,3 @@ module _ (d : Direction) (g : ℕ) (G : Net) (x y z : ℕ) where
 
   pub difference-is : difference d g G q ≡ pos (G (place (subℕ (lows a1) g) (subℕ (lows a2) g) (subℕ (lows a3) g))) -ℤ pos (G far-place)
   difference-is = ap₂ (λ (p r : Place). pos (G p) -ℤ pos (G r)) near far
-
--- the same of what the code computes: a step v, the coordinates with a cell added, the pivot, the lowered coordinates
-pub difference-code : (d : Direction) (g : ℕ) (W : Axis → ℕ) (s : List ℕ) (x y z v1 v2 v3 p i j k : ℕ)
-    → v1 ≡ component d a1 → v2 ≡ component d a2 → v3 ≡ component d a3
-    → p ≡ pivotOf d ((x + (g + 1) - v1) % (g + 1)) ((y + (g + 1) - v2) % (g + 1)) ((z + (g + 1) - v3) % (g + 1)) (g + 1)
-    → i ≡ loweredCoordinate g p (x + (g + 1) - v1) → j ≡ loweredCoordinate g p (y + (g + 1) - v2) → k ≡ loweredCoordinate g p (z + (g + 1) - v3)
-    → pos (readBack W s i j k g g g) -ℤ pos (readBack W s i j k (g + g * v1) (g + g * v2) (g + g * v3)) ≡ difference d g (spread W s) (place (pos x) (pos y) (pos z))
-difference-code d g W s x y z v1 v2 v3 p i j k e1 e2 e3 ep ei ej ek =
-    rw (ei, ej, ek, ep, e1, e2, e3, add-one g) (sym (difference-is d g (spread W s) x y z))

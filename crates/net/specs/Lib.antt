@@ -1,3 +1,4 @@
 pub mod Step
+pub mod Passes
 pub mod Order
 pub mod Build

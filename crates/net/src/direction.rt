@@ -1,13 +1,11 @@
 // Directions, and what a repeat of one adds.
 ghost use mathlib.Core.Path.{_≡_};
-ghost use Prim.Native.Nat.{_+_, _*_, _≤_};
+ghost use Prim.Native.Nat.{_≤_};
 ghost use Rattle.spline.specs.Build.{direction};
 ghost use Rattle.spline.specs.Multiplicities.{more};
-ghost use Rattle.spline.specs.Box.{places};
-ghost use Rattle.shape.specs.Shape.{counted, Limited, widths, Boxed};
+ghost use Rattle.shape.specs.Shape.{counted, Limited};
 ghost use Rattle.net.specs.Step.{vectorOf};
 use shape::Counts;
-use shape::Shape;
 
 // The vector of a direction.
 pub(crate) struct Vector {
@@ -52,12 +50,4 @@ pub(crate) fn one_more(c: Counts, d: u8) -> Counts
     }
     k.v4 = c.v4 + 1;
     k
-}
-
-// The number of places of a box.
-pub(crate) fn places_of(s: Shape) -> usize
-    requires { ⌜ Boxed s ⌝ }
-    ensures { λ r. ⌜ (r ≡ places (widths s)) × (r ≤ 753571) ⌝ }
-{
-    s.w1 * s.w2 * s.w3
 }

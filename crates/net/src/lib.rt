@@ -8,6 +8,7 @@ mod direction;
 mod lines;
 mod order;
 mod repeat;
+mod rows;
 
 use unit::Checked;
 use unit::Unit;

@@ -12,7 +12,6 @@ use Rattle.unit.specs.Unit.{hasNet, netOf}
 use Rattle.unit.specs.declared.Unit.{Unit}
 
 pub record Shaped (v : Multiplicities) : Type 0 where
-  pub degree-some : 1 ≤ degree v
   pub degree-most : degree v ≤ 9
   pub sum : degree v + 3 ≡ v .v1 + v .v2 + v .v3 + v .v4
   pub extent-some : (b : Axis) → 2 ≤ extent v b
@@ -34,7 +33,6 @@ module _ (v : Multiplicities) (l : NetLimits v) where
   shaped =
       let d : degree v ≤ 9 = omega arith in
       record {
-        degree-some = omega arith;
         degree-most = d;
         sum = omega arith;
         extent-some = some;

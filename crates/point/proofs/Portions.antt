@@ -34,10 +34,6 @@ module _ (f : ℕ → Portion) where
   unfolding portions
   even-next i h k = all-next i (λ j. f j .even) h k
 
-  pub even-at : (n i : ℕ) → portions n f .even ≡ true → i < n → f i .even ≡ true
-  unfolding portions
-  even-at n i h l = all-at n (λ j. f j .even) h i l
-
   -- how a loop ends: at the first uneven portion, or after the last
   pub uneven-at : (n i : ℕ) → i < n → f i .even ≡ false → Uneven ≡ blended (portions n f)
   unfolding portions

@@ -92,12 +92,6 @@ pub *ℤ-assoc : (x y z : ℤ) → x *ℤ y *ℤ z ≡ x *ℤ (y *ℤ z)
 pub +ℤ-swap : (a b c d : ℤ) → a +ℤ b +ℤ (c +ℤ d) ≡ a +ℤ c +ℤ (b +ℤ d)
 +ℤ-swap a b c d = same (is-add (is-add (own a) (own b)) (is-add (own c) (own d))) (is-add (is-add (own a) (own c)) (is-add (own b) (own d))) (omega arith)
 
-pub +ℤ-cancel : (x : ℤ) {y z : ℤ} → x +ℤ y ≡ x +ℤ z → y ≡ z
-+ℤ-cancel x {y} {z} e =
-    same (own y) (own z)
-    (let a = is-add (own x) (own y) in let b = is-add (own x) (own z) in
-    let c : up (x +ℤ y) ≡ up (x +ℤ z) = ap up e in let d : down (x +ℤ y) ≡ down (x +ℤ z) = ap down e in omega arith)
-
 -- ---- size
 
 pub halves : (z : ℤ) → natAbs z ≡ up z + down z

@@ -1,90 +1,101 @@
-use mathlib.Core.List.{List}
 use mathlib.Core.Path.{_∙_, _≡_, ap, refl, sym}
-use Prim.Native.Nat.{_%_, _-_, _/_, _≤_, ℕ}
-use native.Mathlib.Nat.{le-antisymm}
+use Prim.Native.Nat.{_*_, _+_, _-_, _≤_, ℕ}
+use native.Mathlib.Nat.{le-antisymm, mul-le-mul-left}
 use native.Mathlib.Omega.{arith}
-use lib.IntN.{pos, ℤ}
-use lib.ListN.{length, length-set, set}
+use lib.IntN.{ℤ}
+use lib.ListN.{length}
 use denote.Ref.{now}
-use mir.Facts.{toZ-ofZ}
-use mir.Syntax.{w32}
-use mir.Val.{SFits, ofZ, toZ}
-use Rattle.sums.proofs.MachineSizes.{fits}
-use Rattle.sums.proofs.Fill.{fill-none, fill-store}
-use Rattle.sums.proofs.Places.{place-in}
+use Rattle.sums.proofs.Fill.{fill-none, length-filled, rebase-in, rebase-out}
 use Rattle.sums.specs.Fill.{filled}
-use Rattle.spline.specs.Box.{spread}
+use Rattle.spline.specs.Box.{places}
 use Rattle.spline.specs.Build.{direction}
-use Rattle.spline.specs.Place.{place}
-use Rattle.shape.specs.Shape.{Boxed, widths}
-use Rattle.shape.specs.declared.Shape.{Shape}
+use Rattle.spline.specs.Place.{Direction, a3}
+use Rattle.shape.specs.Shape.{widths}
+use Rattle.net.proofs.Bounds.{layer-within}
+use Rattle.net.proofs.Cells.{first-cell}
+use Rattle.net.proofs.DifferenceRows.{cell-small, step-small}
 use Rattle.net.proofs.differences.differences.Statement.{statement}
-use Rattle.net.specs.Step.{difference}
+use Rattle.net.specs.Passes.{cellOf, indexDifference}
+use Rattle.net.specs.Step.{component}
+use Rattle.net.specs.declared.differences.Cell.{Cell}
+use Rattle.net.specs.declared.direction.Vector.{Vector}
 use Rattle.net.proofs.differences.differences.Tie as tie
 
--- what the pass writes at an index
-abbrev written : List ℕ → Shape → ℕ → ℕ → ℕ → ℕ → ℤ
-written net old d w1 w2 i = difference (direction d) (old .m) (spread (widths old) net) (place (pos (i % w1)) (pos (i / w1 % w2)) (pos (i / w1 / w2)))
-
 abbrev Inv-loop : tie.InvT-loop
-Inv-loop net work₀ old d w1 w2 n i₀ work i = (i ≤ n) × (work ≡ filled (written net old d w1 w2) i work₀) × (length work ≡ length work₀)
+Inv-loop net work₀ old new d g w3 cz₀ z₀ work cz z =
+    (z ≤ w3) × (cz ≡ cellOf g (z + g * component (direction d) a3)) × (length work ≡ length work₀) × (work ≡ filled (indexDifference (direction d) g (widths old) net (widths new)) (new .w1 * (new .w2 * z)) work₀)
 
 abbrev μ-loop : tie.MeasureT-loop
-μ-loop net work₀ old d w1 w2 n i₀ work i = n - i
+μ-loop net work₀ old new d g w3 cz₀ z₀ work cz z = w3 - z
 
-boxed-new : (s : tie.Start Inv-loop μ-loop) → Boxed (s .args .new)
-boxed-new s = s .pre .0 .1
+module _ (s : tie.Start Inv-loop μ-loop) where
+  abbrev d : Direction
+  d = direction (s .args .d)
 
-places-of-requires : tie.Need-places-of-requires Inv-loop μ-loop
-places-of-requires c κs = c .before .pre .0 .1
+  abbrev g : ℕ
+  g = s .args .old .m
+
+  abbrev f : ℕ → ℤ
+  f = indexDifference d g (widths (s .args .old)) (now (s .args .net)) (widths (s .args .new))
+
+-- in a turn
+module _ (c : tie.In-loop Inv-loop μ-loop) where
+  abbrev start : tie.Start Inv-loop μ-loop
+  start = c .before .before .before .before .before
+
+  abbrev upto : ℕ
+  upto = start .args .new .w1 * (start .args .new .w2 * c .before .loop .z)
+
+vector-of-requires : tie.Need-vector-of-requires Inv-loop μ-loop
+vector-of-requires c κs = (c .before .pre .0 .3, c .before .pre .0 .4)
+
+mul-t11 : tie.Need-mul-t11 Inv-loop μ-loop
+mul-t11 c =
+    let q = c .before .before .before in
+    omega (arith, ap (λ (v : Vector). g q * v .z) (c .before .vector-of .ensures), step-small (d q) a3 (g q))
 
 loop-holds : tie.Need-loop-holds Inv-loop μ-loop
 loop-holds c =
-    let a = c .before .before .args in
-    (omega arith, sym (fill-none (written (now (a .net)) (a .old) (a .d) (a .new .w1) (a .new .w2)) (now (a .work))), refl)
+    let q = c .before .before .before in
+    let e : 0 ≡ q .args .new .w1 * (q .args .new .w2 * 0) = omega arith in
+    (omega arith, ap (λ (v : Vector). cellAt (g q * v .z)) (c .before .vector-of .ensures) ∙ sym (first-cell (g q) (g q * component (d q) a3) (step-small (d q) a3 (g q))), refl, sym (fill-none (f q) (now (q .args .work))) ∙ ap (λ (k : ℕ). filled (f q) k (now (q .args .work))) e)
+  where
+    cellAt : ℕ → Cell
+    cellAt u = record { k = 0; u = u }
 
-div-q : tie.Need-div-q Inv-loop μ-loop
-div-q c = omega (arith, boxed-new (c .before .before .before .before))
+difference-layer-requires : tie.Need-difference-layer-requires Inv-loop μ-loop
+difference-layer-requires c κs =
+    let b = c .before in
+    let q = start b in
+    let l = b .before .loop in
+    ((q .pre .0 .0, q .pre .0 .1, q .pre .0 .2, q .pre .0 .3, q .pre .0 .4, omega arith, l .inv .1), ((q .pre .1 .0, omega (arith, l .inv .2, q .pre .1 .1), q .pre .1 .2), rebase-in (f q) (now (q .args .work)) (l .work) (upto b) (l .inv .3)))
 
-rem-difference-at : tie.Need-rem-difference-at Inv-loop μ-loop
-rem-difference-at c = omega (arith, boxed-new (c .before .before .before .before))
+next-cell-requires : tie.Need-next-cell-requires Inv-loop μ-loop
+next-cell-requires c κs =
+    let q = c .before .before .before .before .before .before .before .before in
+    let l = c .before .before .before .before .loop in
+    (q .pre .0 .2, cell-small (d q) a3 (g q) (l .z) (l .cz) (q .pre .0 .2) (omega (arith, l .inv .0, q .pre .0 .1)) (l .inv .1) .0)
 
-rem-difference-at-2 : tie.Need-rem-difference-at-2 Inv-loop μ-loop
-rem-difference-at-2 c = omega (arith, boxed-new (c .before .before .before .before))
-
-div-difference-at : tie.Need-div-difference-at Inv-loop μ-loop
-div-difference-at c = omega (arith, boxed-new (c .before .before .before .before))
-
-difference-at-requires : tie.Need-difference-at-requires Inv-loop μ-loop
-difference-at-requires c κs =
-    let s = c .before .before .before .before in
-    let r = s .pre .0 in
-    let w = boxed-new s in
-    let p = place-in (s .args .new .w1) (s .args .new .w2) (s .args .new .w3) (c .before .loop .i) (omega (arith, c .before .before .places-of .ensures)) in
-    ((r .0, r .2, s .pre .1 .0, r .3, r .4), (omega (arith, p, w), omega (arith, p, w), omega (arith, p, w), s .pre .1 .2))
-
-mul-t16 : tie.Need-mul-t16 Inv-loop μ-loop
-mul-t16 c = omega (arith, c .before .before .before .places-of .ensures)
-
-slice-set-from-work : tie.Need-slice-set-from-work Inv-loop μ-loop
-slice-set-from-work c = omega (arith, c .before .before .before .places-of .ensures, c .before .before .before .before .before .pre .1 .1)
-
-add-i : tie.Need-add-i Inv-loop μ-loop
-add-i c = omega (arith, c .before .before .before .places-of .ensures)
+add-z : tie.Need-add-z Inv-loop μ-loop
+add-z c = omega (arith, c .before .before .before .before .before .loop .inv .0, c .before .before .before .before .before .before .before .before .before .pre .0 .1)
 
 loop-less : tie.Need-loop-less Inv-loop μ-loop
 loop-less c = omega arith
 
 loop-again : tie.Need-loop-again Inv-loop μ-loop
 loop-again c =
-    let s = c .before .before .before .before .before in
-    let l = c .before .before .loop in
-    let fits : SFits w32 (c .difference-at .result) = record { sfits = c .difference-at .ok } in
-    let f = written (now (s .args .net)) (s .args .old) (s .args .d) (s .args .new .w1) (s .args .new .w2) in (
+    let b = c .before .before .before .before in
+    let q = start b in
+    let l = b .before .loop in
+    let r = c .before .before .difference-layer in
+    let n : l .z + g q * component (d q) a3 + 1 ≡ l .z + 1 + g q * component (d q) a3 = omega arith in
+    let layer : q .args .new .w2 * l .z ≤ q .args .new .w2 * (l .z + 1) = mul-le-mul-left (q .args .new .w2) (omega arith) in
+    let up : upto b ≤ q .args .new .w1 * (q .args .new .w2 * (l .z + 1)) = mul-le-mul-left (q .args .new .w1) layer in
+    let e = rebase-out (f q) (now (q .args .work)) (l .work) (upto b) (l .inv .3) (r .last .1 .0) (q .args .new .w1 * (q .args .new .w2 * (l .z + 1))) up (r .ensures) in (
       omega arith,
-      ap (λ (w : List ℤ). set w (l .i) (toZ w32 (ofZ w32 (c .difference-at .result)))) (l .inv .1)
-          ∙ fill-store f (l .i) (now (s .args .work)) _ (omega (arith, c .before .before .before .places-of .ensures, s .pre .1 .1)) (toZ-ofZ fits ∙ c .difference-at .ensures),
-      simp length-set (l .inv .2),
+      c .next-cell .ensures (l .z + g q * component (d q) a3) (l .inv .1) ∙ ap (cellOf (g q)) n,
+      ap length e ∙ length-filled (f q) (q .args .new .w1 * (q .args .new .w2 * (l .z + 1))) (now (q .args .work)) (omega (arith, layer-within (q .args .new .w1) (q .args .new .w2) (q .args .new .w3) (l .z) (b .loop-test .taken), q .pre .1 .1)),
+      e,
     )
 
 same-length : tie.Need-same-length Inv-loop μ-loop
@@ -92,10 +103,11 @@ same-length c = c .before .loop .inv .2
 
 returns : tie.Need-returns Inv-loop μ-loop
 returns c =
-    let s = c .before .before .before .before in
-    let f = written (now (s .args .net)) (s .args .old) (s .args .d) (s .args .new .w1) (s .args .new .w2) in
-    c .before .loop .inv .1
-    ∙ ap (λ (k : ℕ). filled f k (now (s .args .work))) (le-antisymm (c .before .loop .inv .0) (c .loop-test .left) ∙ c .before .before .places-of .ensures .0)
+    let q = c .before .before .before .before .before in
+    let l = c .before .loop in
+    let h : l .z ≡ q .args .new .w3 = le-antisymm (l .inv .0) (c .loop-test .left) in
+    let k : q .args .new .w1 * (q .args .new .w2 * l .z) ≡ places (widths (q .args .new)) = rw h (omega arith) in
+    l .inv .3 ∙ ap (λ (i : ℕ). filled (f q) i (now (q .args .work))) k
 
 pub differences-spec : {M : Type 1} → statement M
 differences-spec =
@@ -103,16 +115,12 @@ differences-spec =
     (tie.spec
     Inv-loop
     μ-loop
-    places-of-requires
+    vector-of-requires
+    mul-t11
     loop-holds
-    div-q
-    rem-difference-at
-    rem-difference-at-2
-    div-difference-at
-    difference-at-requires
-    mul-t16
-    slice-set-from-work
-    add-i
+    difference-layer-requires
+    next-cell-requires
+    add-z
     loop-less
     loop-again
     same-length

@@ -14,13 +14,10 @@ returns-2 : tie.Need-returns-2
 returns-2 c = search needs
 
 returns-3 : tie.Need-returns-3
-returns-3 c = search needs
-
-returns-4 : tie.Need-returns-4
-returns-4 c =
-    let a = c .before .before .before .args in
+returns-3 c =
+    let a = c .before .before .args in
     let e : a .d ≡ 4 = omega arith in
-    ap (λ (n : ℕ). pivotOf (direction n) (a .u1) (a .u2) (a .u3) (a .m)) (sym e)
+    ap (λ (n : ℕ). pivotOf (direction n) 0 (a .u2) (a .u3) (a .g)) (sym e)
 
 pub pivot-spec : {M : Type 1} → statement M
-pivot-spec = tie.close (tie.spec returns returns-2 returns-3 returns-4)
+pivot-spec = tie.close (tie.spec returns returns-2 returns-3)
