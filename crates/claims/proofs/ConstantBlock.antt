@@ -79,8 +79,12 @@ numerator-constant v net entry x y z D c h =
 constant-held : (u : Unit) (net : List ℕ) (corrections : List ℤ) (uncertainties : List ℕ) (x y z D : ℕ) (c : ℤ)
     → HoldsDefined (netOf u) net → Constant (places (sizes u)) corrections c
     → lentChecks u (length net) (length corrections) (length uncertainties) ≡ Passed → pointChecks u x y z D ≡ Passed
-    → (U : ℕ) × (pointAnswer u net corrections uncertainties x y z D
-    ≡ Value (record { numerator = c *ℤ pos (scale (degree (netOf u)) D); uncertainty = U; denominator = scale (degree (netOf u)) D }))
+    → pointAnswer u net corrections uncertainties x y z D
+    ≡ Value (record {
+      numerator = c *ℤ pos (scale (degree (netOf u)) D);
+      uncertainty = uncertainty (netOf u) (numberAt net) (uncertaintyAt (sizes u) uncertainties) (placing x y z D);
+      denominator = scale (degree (netOf u)) D;
+    })
 constant-held u net corrections uncertainties x y z D c holds block passes inside =
     let v = netOf u in
     let q = placing x y z D in
@@ -94,12 +98,10 @@ constant-held u net corrections uncertainties x y z D c holds block passes insid
     = numerator-constant v (numberAt net) (correctionAt (sizes u) corrections) x y z D c
     (λ b0 b1 b2 b3 e. blended-constant v (numberAt net) (correctionAt (sizes u) corrections) (cell q) (localPlace q b1 b2 b3) c entry
     (window-shares v p net (l .net-long) holds (localPlace q b1 b2 b3) (local-le q b1 b2 b3 (degree v) (omega arith))))
-    ∙ ap (λ (d : ℕ). c *ℤ pos (scale (degree v) d)) (weights-add-up x y z D (placed u x y z D inside .some)) in (
-      uncertainty v (numberAt net) (uncertaintyAt (sizes u) uncertainties) q,
-      point-valued u net corrections uncertainties x y z D passes inside
-          ∙ value-is v (sizes u) (numberAt net) (correctionAt (sizes u) corrections) (uncertaintyAt (sizes u) uncertainties) q D (constant-measured v (sizes u) (cell q) corrections c (block .measured) (block .throughout)) (adds-up v p net (l .net-long) holds x y z D)
-          ∙ ap (λ (w : ℤ). Value (record { numerator = w; uncertainty = uncertainty v (numberAt net) (uncertaintyAt (sizes u) uncertainties) q; denominator = scale (degree v) D })) N,
-    )
+    ∙ ap (λ (d : ℕ). c *ℤ pos (scale (degree v) d)) (weights-add-up x y z D (placed u x y z D inside .some)) in
+    point-valued u net corrections uncertainties x y z D passes inside
+    ∙ value-is v (sizes u) (numberAt net) (correctionAt (sizes u) corrections) (uncertaintyAt (sizes u) uncertainties) q D (constant-measured v (sizes u) (cell q) corrections c (block .measured) (block .throughout)) (adds-up v p net (l .net-long) holds x y z D)
+    ∙ ap (λ (w : ℤ). Value (record { numerator = w; uncertainty = uncertainty v (numberAt net) (uncertaintyAt (sizes u) uncertainties) q; denominator = scale (degree v) D })) N
 
 holds-of : {v : Multiplicities} {s : List ℕ} → BuiltOrPassed v s → HoldsDefined v s
 holds-of (built o n w h) = built-holds o n w h
@@ -107,13 +109,17 @@ holds-of (passed v n d w h) = passed-holds v n d w h
 
 -- With a net that was built or passed, a unit that has a net of the same multiplicities and a net slice that still holds this net, a
 -- block that holds one measured correction c throughout, whatever the uncertainties, and where none of 21, 22, 4, 9 and neither 10
--- nor 11 applies, each point inside is answered, with N equal to c×m!×D^m.
+-- nor 11 applies, each point inside is answered with document 01's fraction, and N is c×m!×D^m.
 pub constant-block : (v : Multiplicities) (s : List ℕ) → BuiltOrPassed v s
     → (u : Unit) → netOf u ≡ v → (net : List ℕ) → take (places (width v)) net ≡ take (places (width v)) s
     → (corrections : List ℤ) (c : ℤ) → Constant (places (sizes u)) corrections c
     → (uncertainties : List ℕ) (x y z D : ℕ) → lentChecks u (length net) (length corrections) (length uncertainties) ≡ Passed → pointChecks u x y z D ≡ Passed
-    → (U : ℕ) × (pointAnswer u net corrections uncertainties x y z D
-    ≡ Value (record { numerator = c *ℤ pos (scale (degree v) D); uncertainty = U; denominator = scale (degree v) D }))
+    → pointAnswer u net corrections uncertainties x y z D
+    ≡ Value (record {
+      numerator = c *ℤ pos (scale (degree v) D);
+      uncertainty = uncertainty v (numberAt net) (uncertaintyAt (sizes u) uncertainties) (placing x y z D);
+      denominator = scale (degree v) D;
+    })
 constant-block v s made u alike net still corrections c block uncertainties x y z D passes inside =
-    subst (λ (w : Multiplicities). (U : ℕ) × (pointAnswer u net corrections uncertainties x y z D ≡ Value (record { numerator = c *ℤ pos (scale (degree w) D); uncertainty = U; denominator = scale (degree w) D }))) alike
+    subst (λ (w : Multiplicities). pointAnswer u net corrections uncertainties x y z D ≡ Value (record { numerator = c *ℤ pos (scale (degree w) D); uncertainty = uncertainty w (numberAt net) (uncertaintyAt (sizes u) uncertainties) (placing x y z D); denominator = scale (degree w) D })) alike
     (constant-held u net corrections uncertainties x y z D c (subst (λ (w : Multiplicities). HoldsDefined w net) (sym alike) (still ∙ holds-of made)) block passes inside)

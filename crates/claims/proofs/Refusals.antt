@@ -1,7 +1,7 @@
--- Demand 1: every refusal that a call answers has one of the numbers of document 01, so 0 is none.
+-- Demand 1: every refusal that a call answers has one of the numbers of document 01, so 0 is none, and leaves what was lent unchanged.
 use mathlib.Core.Bool.{Bool, _||_, false, not, true}
 use mathlib.Core.List.{List}
-use mathlib.Core.Path.{_≡_, refl}
+use mathlib.Core.Path.{_≡_, refl, subst}
 use Prim.Native.Nat.{ℕ}
 use native.Mathlib.Omega.{arith}
 use lib.Dec.{eqb, ltb}
@@ -17,18 +17,19 @@ use Rattle.unit.specs.declared.Checked.{Checked}
 use Rattle.unit.specs.declared.Checked.the-variants.{Passed, Stopped}
 use Rattle.unit.specs.declared.Refusal.{Refusal}
 use Rattle.unit.specs.declared.Unit.{Unit}
-use Rattle.net.specs.Build.{buildAnswer}
+use Rattle.net.specs.Build.{buildAnswer, buildNet, buildWork}
 use Rattle.net.specs.Order.{badByte, buildChecks, orderChecks, orderPlaces}
 use Rattle.inspection.specs.Inspect.{definedNumber, differsFrom, inspectAnswer, inspectChecks}
 use Rattle.field.specs.File.{entryCount, fileLength, headerLength, size1, size2, size3, uncertainty}
-use Rattle.field.specs.Load.{layoutChecks, limitCheck, loadAnswer, loadChecks, roomCheck}
-use Rattle.placing.specs.Place.{limit, pointChecks, scale, unitChecks}
+use Rattle.field.specs.Load.{layoutChecks, limitCheck, loadAnswer, loadChecks, loadCorrections, loadUncertainties, roomCheck}
+use Rattle.placing.specs.Place.{limit, placeAnswer, pointChecks, scale, unitChecks}
 use Rattle.placing.specs.Placing.{cell, cells, inside, placing, sizes}
 use Rattle.placing.specs.declared.Placing.{Placing}
 use Rattle.point.specs.Answer.{correctionAt, lentChecks, numberAt, pointAnswer, uncertaintyAt, valueAnswer, valueChecks}
 use Rattle.point.specs.Blending.{addsUp, firstGap}
 use Rattle.point.specs.declared.PointAnswer.{PointAnswer}
 use Rattle.claims.specs.Refusals.{Numbered, listed}
+use Rattle.placing.specs.declared.PlacingAnswer.the-variants as placings
 use Rattle.point.specs.declared.PointAnswer.the-variants as points
 use Rattle.unit.specs.declared.UnitAnswer.the-variants as units
 
@@ -94,15 +95,21 @@ point-numbered u x y z D =
 
 -- ---- the answers
 
-module _ {r : Refusal} where
-  unit-refused : (k : Checked) (u : Unit) → Numbered k → passedOr k (units.Changed u) units.Refused ≡ units.Refused r → listed (r .number) ≡ true
-  unit-refused Passed u l h = let z : _≡_ {A = ℕ} 0 1 = cc in absurd (omega arith)
-  unit-refused (Stopped s) u l h = let e : s ≡ r = cc in rw e at l
+unit-stopped : (k : Checked) (u : Unit) {r : Refusal} → passedOr k (units.Changed u) units.Refused ≡ units.Refused r → k ≡ Stopped r
+unit-stopped Passed u h = let z : _≡_ {A = ℕ} 0 1 = cc in absurd (omega arith)
+unit-stopped (Stopped s) u h = cc
 
-  point-refused : (k : Checked) (made : PointAnswer) → Numbered k → (made ≡ points.Refused r → listed (r .number) ≡ true)
-      → passedOr k made points.Refused ≡ points.Refused r → listed (r .number) ≡ true
-  point-refused Passed made l m h = m h
-  point-refused (Stopped s) made l m h = let e : s ≡ r = cc in rw e at l
+place-stopped : (k : Checked) (q : Placing) {r : Refusal} → passedOr k (placings.Placed q) placings.Refused ≡ placings.Refused r → k ≡ Stopped r
+place-stopped Passed q h = let z : _≡_ {A = ℕ} 0 1 = cc in absurd (omega arith)
+place-stopped (Stopped s) q h = cc
+
+stopped-numbered : {k : Checked} {r : Refusal} → Numbered k → k ≡ Stopped r → listed (r .number) ≡ true
+stopped-numbered l e = subst Numbered e l
+
+point-refused : (k : Checked) (made : PointAnswer) {r : Refusal} → Numbered k → (made ≡ points.Refused r → listed (r .number) ≡ true)
+    → passedOr k made points.Refused ≡ points.Refused r → listed (r .number) ≡ true
+point-refused Passed made l m h = m h
+point-refused (Stopped s) made {r} l m h = let e : Stopped s ≡ Stopped r = cc in stopped-numbered l e
 
 value-numbered : (v : Multiplicities) (n : Axis → ℕ) (net : ℕ → ℕ) (corrections : ℕ → ℕ → ℕ → ℤ) (uncertainties : ℕ → ℕ → ℕ → ℕ) (q : Placing) (D : ℕ) {r : Refusal}
     → valueAnswer v n net corrections uncertainties q D ≡ points.Refused r → listed (r .number) ≡ true
@@ -117,14 +124,29 @@ pub numbers : (r : Refusal)
     → ((u : Unit) (order : List ℕ) (net work : ℕ) → buildAnswer u order net work ≡ units.Refused r → listed (r .number) ≡ true)
     × ((u : Unit) (v : Multiplicities) (net : List ℕ) (defined work : ℕ) → inspectAnswer u v net defined work ≡ units.Refused r → listed (r .number) ≡ true)
     × ((u : Unit) (file : List ℕ) (corrections : List ℤ) (uncertainties : List ℕ) → loadAnswer u file corrections uncertainties ≡ units.Refused r → listed (r .number) ≡ true)
+    × ((u : Unit) (x y z D : ℕ) → placeAnswer u x y z D ≡ placings.Refused r → listed (r .number) ≡ true)
     × ((u : Unit) (net : List ℕ) (corrections : List ℤ) (uncertainties : List ℕ) (x y z D : ℕ) → pointAnswer u net corrections uncertainties x y z D ≡ points.Refused r → listed (r .number) ≡ true)
-unfolding buildAnswer inspectAnswer loadAnswer pointAnswer
+unfolding buildAnswer inspectAnswer loadAnswer placeAnswer pointAnswer
 numbers r = (
-  λ u order net work h. unit-refused (buildChecks order net work) _ (build-numbered order net work) h,
-  λ u v net defined work h. unit-refused (inspectChecks v net defined work) _ (inspect-numbered v net defined work) h,
-  λ u file corrections uncertainties h. unit-refused (loadChecks file (length corrections) (length uncertainties)) _ (load-numbered file (length corrections) (length uncertainties)) h,
+  λ u order net work h. stopped-numbered (build-numbered order net work) (unit-stopped (buildChecks order net work) _ h),
+  λ u v net defined work h. stopped-numbered (inspect-numbered v net defined work) (unit-stopped (inspectChecks v net defined work) _ h),
+  λ u file corrections uncertainties h. stopped-numbered (load-numbered file (length corrections) (length uncertainties)) (unit-stopped (loadChecks file (length corrections) (length uncertainties)) _ h),
+  λ u x y z D h. stopped-numbered (then-numbered (unitChecks u) (pointChecks u x y z D) (unit-numbered u) (point-numbered u x y z D)) (place-stopped (andThen (unitChecks u) (pointChecks u x y z D)) _ h),
   λ u net corrections uncertainties x y z D h.
       let k = lentChecks u (length net) (length corrections) (length uncertainties) in
       point-refused (andThen k (pointChecks u x y z D)) _ (then-numbered k (pointChecks u x y z D) (lent-numbered u (length net) (length corrections) (length uncertainties)) (point-numbered u x y z D))
       (λ e. value-numbered (netOf u) (sizes u) (numberAt net) (correctionAt (sizes u) corrections) (uncertaintyAt (sizes u) uncertainties) (placing x y z D) D e) h,
+)
+
+-- A refused build leaves the net slice and the work slice as found, a refused load both block slices. No other call writes to a
+-- slice but an inspection to its work slices; and a refused answer carries no unit.
+pub unchanged : (r : Refusal)
+    → ((u : Unit) (order net : List ℕ) (before after : List ℤ) → buildAnswer u order (length net) (length before) ≡ units.Refused r → buildWork order (length net) before after
+    → (buildNet order net (length before) ≡ net) × (after ≡ before))
+    × ((u : Unit) (file : List ℕ) (corrections : List ℤ) (uncertainties : List ℕ) → loadAnswer u file corrections uncertainties ≡ units.Refused r
+    → (loadCorrections file corrections uncertainties ≡ corrections) × (loadUncertainties file corrections uncertainties ≡ uncertainties))
+unfolding buildAnswer buildNet buildWork loadAnswer loadCorrections loadUncertainties
+unchanged r = (
+  λ u order net before after h w. let e = unit-stopped (buildChecks order (length net) (length before)) _ h in (rw e refl, rw e at w),
+  λ u file corrections uncertainties h. let e = unit-stopped (loadChecks file (length corrections) (length uncertainties)) _ h in (rw e refl, rw e refl),
 )

@@ -41,7 +41,7 @@ Holds (point corrections x y z D N U d) =
 abbrev pub twoEntries : List ℤ
 twoEntries = pos 100 ∷ negsuc 39 ∷ pos 0 ∷ pos 0 ∷ pos 0 ∷ pos 0 ∷ pos 0 ∷ pos 0 ∷ []
 
--- "degree 5: D = 297 passes, 298 meets 11", at the point one cell in of a block that reaches it; "point (1,1,1), D 1: N 100, U 5, 1";
+-- "degree 5: D = 297 passes, 298 meets 11", at a point of the one cell that is inside a block of 4, 4, 4; "point (1,1,1), D 1: N 100, U 5, 1";
 -- "(3,2,2), D 2: N 60, U 10, 2"
 abbrev pub figures : List Figure
 figures =

@@ -24,7 +24,7 @@ encoding n1 n2 n3 corrections uncertainties =
     littleEndian (n1 ∷ n2 ∷ n3 ∷ map bits corrections ++ uncertainties)
 
 -- sizes and entries within limits: "each 1 to 64, product n at most 4096", n entries,
--- "signed 16-bit", "at most 32767"
+-- "signed 16-bit" (the magnitude of −(k + 1) is k here), "at most 32767"
 pub record WithinLimits (n1 n2 n3 : ℕ) (corrections : List ℤ) (uncertainties : List ℕ) : Type 0 where
   pub sizes : sizesAllowed n1 n2 n3 ≡ true
   pub count1 : length corrections ≡ n1 * n2 * n3

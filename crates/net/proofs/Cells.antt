@@ -25,11 +25,11 @@ module _ (g k u : ℕ) (l : u ≤ g) where
     pub remainder-is : n % suc g ≡ u
     remainder-is = ap (λ (t : ℕ). t % suc g) (sym e) ∙ remainder
 
-    pub cell-is : cellOf g n ≡ record { k = g * k; u = u }
+    pub cell-is : cellOf g n ≡ record { base = g * k; u = u }
     cell-is = ap₂ (λ (a b : ℕ). cellAt a b) (ap (λ (t : ℕ). g * t) quotient-is) remainder-is
       where
         cellAt : ℕ → ℕ → Cell
-        cellAt a b = record { k = a; u = b }
+        cellAt a b = record { base = a; u = b }
 
     pub lowered-is : (p : ℕ) → loweredCoordinate g p n ≡ g * k + lowerAbove p u
     unfolding loweredCoordinate
@@ -42,24 +42,24 @@ same-quotient : (g k l a b : ℕ) → a ≤ g → b ≤ g → suc g * k + a ≡ 
 same-quotient g k l a b ha hb e = sym (quotient-is g k a ha (suc g * l + b) e) ∙ quotient g l b hb
 
 -- ---- the next coordinate
-pub next-within : (g n : ℕ) → n % suc g < g → cellOf g (n + 1) ≡ record { k = g * (n / suc g); u = n % suc g + 1 }
+pub next-within : (g n : ℕ) → n % suc g < g → cellOf g (n + 1) ≡ record { base = g * (n / suc g); u = n % suc g + 1 }
 next-within g n l = cell-is g (n / suc g) (n % suc g + 1) (omega arith) (n + 1) (omega (arith, whole g n))
 
-pub next-carries : (g n : ℕ) → g ≤ n % suc g → cellOf g (n + 1) ≡ record { k = g * (n / suc g) + g; u = 0 }
+pub next-carries : (g n : ℕ) → g ≤ n % suc g → cellOf g (n + 1) ≡ record { base = g * (n / suc g) + g; u = 0 }
 next-carries g n l =
     let e : g * suc (n / suc g) ≡ g * (n / suc g) + g = omega arith in
     cell-is g (suc (n / suc g)) 0 (omega arith) (n + 1) (omega (arith, whole g n)) ∙ ap (λ (t : ℕ). cellAt t) e
   where
     cellAt : ℕ → Cell
-    cellAt t = record { k = t; u = 0 }
+    cellAt t = record { base = t; u = 0 }
 
-pub first-cell : (g t : ℕ) → t ≤ g → cellOf g (0 + t) ≡ record { k = 0; u = t }
+pub first-cell : (g t : ℕ) → t ≤ g → cellOf g (0 + t) ≡ record { base = 0; u = t }
 first-cell g t l =
     let e : g * 0 ≡ 0 = omega arith in
     cell-is g 0 t l (0 + t) (omega arith) ∙ ap (λ (k : ℕ). cellAt k) e
   where
     cellAt : ℕ → Cell
-    cellAt k = record { k = k; u = t }
+    cellAt k = record { base = k; u = t }
 
 -- ---- the lowered coordinate
 -- It stays once in each cell, past the pivot: s is the coordinate that has run along to n where the next stay

@@ -32,9 +32,9 @@ fills-next f work₀ work i x v h l e =
 
 -- ---- the row (y, z)
 -- a lowered coordinate from its cell
-cell-lowered : (g p n : ℕ) (c : Cell) → c ≡ cellOf g n → c .k + lowerAbove p (c .u) ≡ loweredCoordinate g p n
+cell-lowered : (g p n : ℕ) (c : Cell) → c ≡ cellOf g n → c .base + lowerAbove p (c .u) ≡ loweredCoordinate g p n
 unfolding loweredCoordinate
-cell-lowered g p n c e = ap (λ (t : Cell). t .k + lowerAbove p (t .u)) e
+cell-lowered g p n c e = ap (λ (t : Cell). t .base + lowerAbove p (t .u)) e
 
 module _ (d : Direction) (g : ℕ) (W : Axis → ℕ) (s : List ℕ) (W′ : Axis → ℕ) (y z : ℕ) (hy : y < W′ a2) where
   abbrev row : ℕ
@@ -74,15 +74,15 @@ module _ (k g : ℕ) (W : Axis → ℕ) (s : List ℕ) (W′ : Axis → ℕ) (y 
   pub step-x : g * v .x ≤ p
   step-x = rw (ev, pivot-is 0) (first-low d g y z)
 
-  pub step-y : g * v .y ≤ cy .k + lowerAbove p (cy .u)
+  pub step-y : g * v .y ≤ cy .base + lowerAbove p (cy .u)
   step-y = rw (ev, cell-lowered g p (y + g * component d a2) cy ey, pivot-is 0) (reaches d g 0 y z a2)
 
-  pub step-z : g * v .z ≤ cz .k + lowerAbove p (cz .u)
+  pub step-z : g * v .z ≤ cz .base + lowerAbove p (cz .u)
   step-z = rw (ev, cell-lowered g p (z + g * component d a3) cz ez, pivot-is 0) (reaches d g 0 y z a3)
 
   pub row-difference : (x : ℕ) → x < W′ a1
       → indexDifference d g W s W′ (W′ a1 * (y + W′ a2 * z) + x)
-      ≡ stepDifference W s (record { x = g * v .x; y = g * v .y; z = g * v .z }) (nearCoordinate g p (g * v .x) x) (cy .k + lowerAbove p (cy .u) - g * v .y) (cz .k + lowerAbove p (cz .u) - g * v .z)
+      ≡ stepDifference W s (record { x = g * v .x; y = g * v .y; z = g * v .z }) (nearCoordinate g p (g * v .x) x) (cy .base + lowerAbove p (cy .u) - g * v .y) (cz .base + lowerAbove p (cz .u) - g * v .z)
   row-difference x hx =
       at-place d g W s W′ y z hy x hx
       ∙ rw (ev, cell-lowered g p (y + g * component d a2) cy ey, cell-lowered g p (z + g * component d a3) cz ez, pivot-is x) refl
@@ -95,7 +95,7 @@ module _ (k g : ℕ) (W : Axis → ℕ) (s : List ℕ) (W′ : Axis → ℕ) (y 
     (ey : cy ≡ cellOf g (y + g * component (direction k) a2)) (ez : cz ≡ cellOf g (z + g * component (direction k) a3)) where
   -- a coordinate that the direction does not move along
   still : (p q : ℕ) (b : Axis) (c : Cell) → component (along a1) b ≡ 0 → c ≡ cellOf g (q + g * component (direction k) b)
-      → nearCoordinate g p (g * component (along a1) b) q ≡ c .k + lowerAbove p (c .u)
+      → nearCoordinate g p (g * component (along a1) b) q ≡ c .base + lowerAbove p (c .u)
   still p q b c e ec =
       let n : q + g * component (direction k) b ≡ q + g * component (along a1) b = ap (λ (t : ℕ). q + g * component (direction t) b) one in
       let f : g * component (along a1) b ≡ 0 = rw e (omega arith) in
@@ -111,15 +111,15 @@ module _ (k g : ℕ) (W : Axis → ℕ) (s : List ℕ) (W′ : Axis → ℕ) (y 
       ∙ at-place (along a1) g W s W′ y z hy x hx
       ∙ ap (λ (t : ℕ). stepDifference W s (record { x = t; y = g * 0; z = g * 0 }) (nearCoordinate g ((x + t) % suc g) t x) (nearCoordinate g ((x + t) % suc g) (g * 0) y) (nearCoordinate g ((x + t) % suc g) (g * 0) z)) e1
       ∙ ap₂ (λ (b c : ℕ). stepDifference W s (record { x = g; y = g * 0; z = g * 0 }) (nearCoordinate g u g x) b c) (still u y a2 cy refl ey) (still u z a3 cz refl ez)
-      ∙ ap₂ (λ (b c : ℤ). pos (spread W s (place (pos (nearCoordinate g u g x)) (pos (cy .k + lowerAbove u (cy .u))) (pos (cz .k + lowerAbove u (cz .u))))) -ℤ pos (spread W s (place (subℕ (nearCoordinate g u g x) g) b c))) (sub-none (cy .k + lowerAbove u (cy .u)) (g * 0) e0) (sub-none (cz .k + lowerAbove u (cz .u)) (g * 0) e0)
+      ∙ ap₂ (λ (b c : ℤ). pos (spread W s (place (pos (nearCoordinate g u g x)) (pos (cy .base + lowerAbove u (cy .u))) (pos (cz .base + lowerAbove u (cz .u))))) -ℤ pos (spread W s (place (subℕ (nearCoordinate g u g x) g) b c))) (sub-none (cy .base + lowerAbove u (cy .u)) (g * 0) e0) (sub-none (cz .base + lowerAbove u (cz .u)) (g * 0) e0)
 
 -- ---- sizes
 pub step-small : (d : Direction) (b : Axis) (g : ℕ) → g * component d b ≤ g
 step-small d b g = let h : g * component d b ≤ g * 1 = mul-le-mul-left g (component-le d b) in omega arith
 
-pub cell-small : (d : Direction) (b : Axis) (g q : ℕ) (c : Cell) → g ≤ 8 → q ≤ 91 → c ≡ cellOf g (q + g * component d b) → (c .k ≤ 800) × (c .u ≤ 8)
+pub cell-small : (d : Direction) (b : Axis) (g q : ℕ) (c : Cell) → g ≤ 8 → q ≤ 91 → c ≡ cellOf g (q + g * component d b) → (c .base ≤ 800) × (c .u ≤ 8)
 cell-small d b g q c hg hq e =
     let n : ℕ = q + g * component d b in
-    let k : c .k ≡ g * (n / suc g) = ap (λ (t : Cell). t .k) e in
+    let k : c .base ≡ g * (n / suc g) = ap (λ (t : Cell). t .base) e in
     let u : c .u ≡ n % suc g = ap (λ (t : Cell). t .u) e in
     (omega (arith, product-bound g n (suc g) hg (omega (arith, step-small d b g))), omega (arith, whole g n .1))

@@ -17,9 +17,9 @@ use Rattle.net.specs.declared.direction.Vector.{Vector}
 abbrev pub indexDifference : Direction → ℕ → (Axis → ℕ) → List ℕ → (Axis → ℕ) → ℕ → ℤ
 indexDifference d g W s W′ i = difference d g (spread W s) (placeOf W′ i)
 
--- the cell and the remainder of a coordinate, at degree g + 1: g × k, and u
+-- of a coordinate at degree g + 1: g × k, for its cell k, and its remainder u
 abbrev pub cellOf : ℕ → ℕ → Cell
-cellOf g n = record { k = g * (n / suc g); u = n % suc g }
+cellOf g n = record { base = g * (n / suc g); u = n % suc g }
 
 -- The lowered coordinate one step of the direction before x. On an axis that the direction moves along t is g, and
 -- x + g is a cell up from there, since x − 1 may be −1; elsewhere t is 0.
@@ -43,8 +43,8 @@ stepDifference W s t a b c = pos (spread W s (place (pos a) (pos b) (pos c))) -�
 -- the number at a of the lowered row of y and z, less the one g before it; the pivot is the remainder u of x
 abbrev pub lineDifference : ℕ → (Axis → ℕ) → List ℕ → Cell → Cell → ℕ → ℕ → ℤ
 lineDifference g W s y z u a =
-    pos (spread W s (place (pos a) (pos (y .k + lowerAbove u (y .u))) (pos (z .k + lowerAbove u (z .u)))))
-    -ℤ pos (spread W s (place (subℕ a g) (pos (y .k + lowerAbove u (y .u))) (pos (z .k + lowerAbove u (z .u)))))
+    pos (spread W s (place (pos a) (pos (y .base + lowerAbove u (y .u))) (pos (z .base + lowerAbove u (z .u)))))
+    -ℤ pos (spread W s (place (subℕ a g) (pos (y .base + lowerAbove u (y .u))) (pos (z .base + lowerAbove u (z .u)))))
 
 -- where the first a places of a list held the numbers of f, the first e places hold them now, and the rest is
 -- untouched
@@ -69,7 +69,7 @@ pub record RowSums (prior : (ℕ → ℕ) → ℕ → ℕ) (a e : ℕ) (work : L
   pub start : net ≡ filled number a net
   pub sums : (i : ℕ) → a ≤ i → i < e → SumOf (prior number i) (getD work i (pos 0)) (number i)
 
--- no number, where one step of the direction leaves the box
+-- no number, where one step back of the direction leaves the box
 abbrev pub none : (ℕ → ℕ) → ℕ → ℕ
 none f i = 0
 

@@ -24,12 +24,12 @@ vectorOf d = record { x = component d a1; y = component d a2; z = component d a3
 abbrev pub difference : Direction → ℕ → Net → Place → ℤ
 difference d g G q = ruleRight d g G (q ⊖ d)
 
--- the remainder that the others are compared with: m, which none exceeds, for direction 4
+-- the remainder that the others are compared with; for direction 4 a number that none exceeds
 abbrev pub pivotOf : Direction → ℕ → ℕ → ℕ → ℕ → ℕ
-pivotOf (along a1) u1 u2 u3 m = u1
-pivotOf (along a2) u1 u2 u3 m = u2
-pivotOf (along a3) u1 u2 u3 m = u3
-pivotOf diagonal u1 u2 u3 m = m
+pivotOf (along a1) u1 u2 u3 top = u1
+pivotOf (along a2) u1 u2 u3 top = u2
+pivotOf (along a3) u1 u2 u3 top = u3
+pivotOf diagonal u1 u2 u3 top = top
 
 -- g × k + w, where k and u are those of x at degree g + 1
 unfoldable pub loweredCoordinate : ℕ → ℕ → ℕ → ℕ

@@ -42,21 +42,27 @@ fn lower(p: usize, u: usize) -> usize
     u
 }
 
-// The cell and the remainder of a coordinate: k counts the lowered places of the cells before it.
+// The cell and the remainder of a coordinate: `base` counts the lowered places of the cells before it, g×k.
 struct Cell {
-    k: usize,
+    base: usize,
     u: usize,
 }
 
 // Those of the next coordinate.
 fn next_cell(g: usize, c: Cell) -> Cell
-    requires { ⌜ (g ≤ 8) × (c .k ≤ 800) ⌝ }
+    requires { ⌜ (g ≤ 8) × (c .base ≤ 800) ⌝ }
     ensures { λ r. ⌜ ((n : ℕ) → c ≡ cellOf g n → r ≡ cellOf g (n + 1)) ⌝ }
 {
     if c.u < g {
-        return Cell { k: c.k, u: c.u + 1 };
+        return Cell {
+            base: c.base,
+            u: c.u + 1,
+        };
     }
-    Cell { k: c.k + g, u: 0 }
+    Cell {
+        base: c.base + g,
+        u: 0,
+    }
 }
 
 fn minus(a: u32, b: u32) -> i32
@@ -106,14 +112,14 @@ fn difference_across(
 
 // Where the lowered row of each remainder on the first axis ends, from the cells of y and z.
 fn row_ends(s: Shape, y: Cell, z: Cell) -> [usize; 9]
-    requires { ⌜ Boxed s × (s .m ≤ 8) × (y .k ≤ 800) × (y .u ≤ 8) × (z .k ≤ 800) × (z .u ≤ 8) ⌝ }
-    ensures { λ r. ⌜ ((u : ℕ) → u ≤ s .m → getD r u 0 ≡ rowEnd (widths s) (pos (y .k + lowerAbove u (y .u))) (pos (z .k + lowerAbove u (z .u)))) ⌝ }
+    requires { ⌜ Boxed s × (s .m ≤ 8) × (y .base ≤ 800) × (y .u ≤ 8) × (z .base ≤ 800) × (z .u ≤ 8) ⌝ }
+    ensures { λ r. ⌜ ((u : ℕ) → u ≤ s .m → getD r u 0 ≡ rowEnd (widths s) (pos (y .base + lowerAbove u (y .u))) (pos (z .base + lowerAbove u (z .u)))) ⌝ }
 {
     let g = s.m;
     let mut ends = [0usize; 9];
     let mut u = 0;
     while u <= g {
-        ends[u] = rows::end_of(s, y.k + lower(u, y.u), z.k + lower(u, z.u));
+        ends[u] = rows::end_of(s, y.base + lower(u, y.u), z.base + lower(u, z.u));
         u += 1;
     }
     ends
@@ -131,7 +137,7 @@ fn difference_along(
     z: Cell,
 )
     requires { ⌜ Boxed old × (old .m ≤ 8) × (places (widths old) ≤ length (now net)) × AtMost 362880 (spread (widths old) (now net)) ⌝ }
-    requires { ⌜ (i + w1 ≤ length (now work)) × (y .k ≤ 800) × (y .u ≤ 8) × (z .k ≤ 800) × (z .u ≤ 8) ⌝ }
+    requires { ⌜ (i + w1 ≤ length (now work)) × (y .base ≤ 800) × (y .u ≤ 8) × (z .base ≤ 800) × (z .u ≤ 8) ⌝ }
     ensures { λ _. ⌜ ((f : ℕ → ℤ) → ((x : ℕ) → x < w1 → f (i + x) ≡ lineDifference (old .m) (widths old) (now (net .entry)) y z ((x + old .m) % suc (old .m)) (nearCoordinate (old .m) ((x + old .m) % suc (old .m)) (old .m) x)) → FillsOn f i (i + w1) (now (work .entry)) (now (work .exit))) ⌝ }
 {
     let g = old.m;
@@ -188,8 +194,8 @@ fn difference_row(
         z: g * v.z,
     };
     let p = pivot(d, cy.u, cz.u, g);
-    let b = cy.k + lower(p, cy.u) - t.y;
-    let c = cz.k + lower(p, cz.u) - t.z;
+    let b = cy.base + lower(p, cy.u) - t.y;
+    let c = cz.base + lower(p, cz.u) - t.z;
     difference_across(net, work, old, i, w1, t, p, b, c);
 }
 
@@ -211,7 +217,10 @@ fn difference_layer(
     let g = old.m;
     let w2 = new.w2;
     let v = direction::vector_of(d);
-    let mut cy = Cell { k: 0, u: g * v.y };
+    let mut cy = Cell {
+        base: 0,
+        u: g * v.y,
+    };
     let mut y = 0;
     while y < w2 {
         difference_row(net, work, old, new, d, y, z, cy, cz);
@@ -229,7 +238,10 @@ pub(crate) fn differences(net: &[u32], work: &mut [i32], old: Shape, new: Shape,
     let g = old.m;
     let w3 = new.w3;
     let v = direction::vector_of(d);
-    let mut cz = Cell { k: 0, u: g * v.z };
+    let mut cz = Cell {
+        base: 0,
+        u: g * v.z,
+    };
     let mut z = 0;
     while z < w3 {
         difference_layer(net, work, old, new, d, z, cz);

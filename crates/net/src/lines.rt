@@ -23,7 +23,7 @@ fn plus(a: u32, b: i32) -> u32
     (a as i32 + b) as u32
 }
 
-// Places from which one step of the direction leaves the box: the entries themselves.
+// Places from which one step back of the direction leaves the box: the entries themselves.
 fn sum_edge(net: &mut [u32], work: &[i32], a: usize, e: usize)
     requires { ⌜ (a ≤ e) × (e ≤ length (now net)) × (e ≤ length (now work)) × RowSums none a e (now work) (now net) ⌝ }
     ensures { λ _. ⌜ ((r : RowSums none a e (now (work .entry)) (now (net .entry))) → now (net .exit) ≡ filled (r .number) e (now (net .entry))) ⌝ }

@@ -61,17 +61,17 @@ fn row_sums(
     ensures { λ r. ⌜ ((n : ℕ) → Small n from → Small (n + 16) r) ⌝ }
 {
     let mut t = from;
-    let mut i = 0;
-    while i < count {
+    let mut i1 = 0;
+    while i1 < count {
         t = added(
             t,
             entry_sums(
-                net[at + m * i],
-                corrections[entry - i],
-                uncertainties[entry - i],
+                net[at + m * i1],
+                corrections[entry - i1],
+                uncertainties[entry - i1],
             ),
         );
-        i += 1;
+        i1 += 1;
     }
     t
 }
@@ -98,8 +98,8 @@ fn plane_sums(
     let k1 = f.k1;
     let k2 = f.k2;
     let mut t = from;
-    let mut i = 0;
-    while i < rows {
+    let mut i2 = 0;
+    while i2 < rows {
         t = row_sums(
             t,
             net,
@@ -107,10 +107,10 @@ fn plane_sums(
             uncertainties,
             m,
             count,
-            at + step * i,
-            k1 + n1 * (k2 - i + y),
+            at + step * i2,
+            k1 + n1 * (k2 - i2 + y),
         );
-        i += 1;
+        i2 += 1;
     }
     t
 }
@@ -135,18 +135,18 @@ pub(crate) fn window_sums(
         corrections: 0,
         uncertainties: 0,
     };
-    let mut i = 0;
-    while i < planes {
+    let mut i3 = 0;
+    while i3 < planes {
         t = plane_sums(
             t,
             net,
             corrections,
             uncertainties,
             f,
-            at + step * i,
-            n2 * (k3 - i),
+            at + step * i3,
+            n2 * (k3 - i3),
         );
-        i += 1;
+        i3 += 1;
     }
     t
 }

@@ -38,7 +38,7 @@ impl Counts {
     }
 }
 
-// m, which is 0 for multiplicities that add up to less than 3.
+// m, which is 0 for multiplicities that add up to less than 3. The bounds here and below are those of four bytes.
 pub fn degree_of(c: Counts) -> usize
     ensures { λ r. ⌜ (r ≡ degree (counted c)) × (r ≤ 1017) ⌝ }
 {

@@ -39,6 +39,11 @@ allowed-limits v h =
     let b = split _ _ (c .0) in
     record { least1 = leb-true 1 (v .v1) (b .0); least2 = leb-true 1 (v .v2) (b .1); least3 = leb-true 1 (v .v3) (c .1); least4 = leb-true 1 (v .v4) (d .1); sum = leb-true _ 12 (e .1) }
 
+pub limits-allowed : (v : Multiplicities) → NetLimits v → allowed v ≡ true
+unfolding allowed
+limits-allowed v l =
+    simp (le-leb _ _ (l .least1), le-leb _ _ (l .least2), le-leb _ _ (l .least3), le-leb _ _ (l .least4), le-leb _ _ (l .sum))
+
 pub size-limits : (n : ℕ) → sizeAllowed n ≡ true → (1 ≤ n) × (n ≤ 64)
 unfolding sizeAllowed
 size-limits n h = let e = split _ _ h in (leb-true 1 n (e .0), leb-true n 64 (e .1))

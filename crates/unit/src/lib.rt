@@ -1,5 +1,5 @@
 // The unit record: which net and which block a correction unit holds, the limits on both, and the
-// answers that carry a unit or a refusal. Any bit pattern may be handed in.
+// answers that carry a unit or a refusal. Any values may stand in it.
 ghost use mathlib.Core.Path.{_≡_};
 ghost use Rattle.unit.specs.Unit.{emptyUnit, hasNet, sizeAllowed, sizesAllowed, hasBlock, withNet, withBlock};
 ghost use Rattle.unit.specs.Checks.{refusal};

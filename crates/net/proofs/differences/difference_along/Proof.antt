@@ -24,7 +24,7 @@ use Rattle.net.proofs.differences.difference_along.Tie as tie
 abbrev Inv-loop : tie.InvT-loop
 Inv-loop net work₀ old i w1 g ends u₀ a₀ x₀ work u a x =
     (x ≤ w1) × (u ≤ g) × (a ≤ x) × (x + g + (g - u) + suc g * (a + g) ≡ g + suc g * (x + g)) × (length work ≡ length work₀)
-    × ((f : ℕ → ℤ) (y z : Cell) → ((v : ℕ) → v ≤ g → getD ends v 0 ≡ rowEnd (widths old) (pos (y .k + lowerAbove v (y .u))) (pos (z .k + lowerAbove v (z .u))))
+    × ((f : ℕ → ℤ) (y z : Cell) → ((v : ℕ) → v ≤ g → getD ends v 0 ≡ rowEnd (widths old) (pos (y .base + lowerAbove v (y .u))) (pos (z .base + lowerAbove v (z .u))))
     → ((x : ℕ) → x < w1 → f (i + x) ≡ lineDifference g (widths old) net y z ((x + g) % suc g) (nearCoordinate g ((x + g) % suc g) g x)) → work₀ ≡ filled f i work₀ → work ≡ filled f (i + x) work₀)
 
 abbrev μ-loop : tie.MeasureT-loop
@@ -70,7 +70,7 @@ module _ (c : tie.After-read-back Inv-loop μ-loop) where
 
 -- where the ends are those of the lowered rows of two cells
 module _ (c : tie.After-minus Inv-loop μ-loop) (y z : Cell)
-    (ends : (v : ℕ) → v ≤ g (c .before) → getD (c .before .before .before .before .before .row-ends .result) v 0 ≡ rowEnd (widths (start (c .before) .args .old)) (pos (y .k + lowerAbove v (y .u))) (pos (z .k + lowerAbove v (z .u)))) where
+    (ends : (v : ℕ) → v ≤ g (c .before) → getD (c .before .before .before .before .before .row-ends .result) v 0 ≡ rowEnd (widths (start (c .before) .args .old)) (pos (y .base + lowerAbove v (y .u))) (pos (z .base + lowerAbove v (z .u)))) where
   abbrev valueAt : ℕ → ℕ → ℤ
   valueAt w a = lineDifference (g (c .before)) (widths (start (c .before) .args .old)) (now (start (c .before) .args .net)) y z w a
 

@@ -60,7 +60,7 @@ loop-holds c =
     (omega arith, ap (λ (v : Vector). cellAt (g q * v .y)) (c .before .vector-of .ensures) ∙ sym (first-cell (g q) (g q * component (d q) a2) (step-small (d q) a2 (g q))), refl, q .pre .1 .1 ∙ ap (λ (k : ℕ). filled (f q) k (now (q .args .work))) e)
   where
     cellAt : ℕ → Cell
-    cellAt u = record { k = 0; u = u }
+    cellAt u = record { base = 0; u = u }
 
 difference-row-requires : tie.Need-difference-row-requires Inv-loop μ-loop
 difference-row-requires c κs =

@@ -34,10 +34,10 @@ module _ (s : tie.Start) where
   bounds : (s .args .new .w2 * s .args .z ≤ 8281) × (row ≤ 761852)
   bounds = row-bounds (s .args .y) (s .args .z) (s .args .new .w1) (s .args .new .w2) (omega arith) (omega arith) (omega arith) (omega arith)
 
-  small-y : (s .args .cy .k ≤ 800) × (s .args .cy .u ≤ 8)
+  small-y : (s .args .cy .base ≤ 800) × (s .args .cy .u ≤ 8)
   small-y = cell-small (direction (s .args .d)) a2 g (s .args .y) (s .args .cy) (s .pre .0 .2) (omega arith) (s .pre .1 .0 .0)
 
-  small-z : (s .args .cz .k ≤ 800) × (s .args .cz .u ≤ 8)
+  small-z : (s .args .cz .base ≤ 800) × (s .args .cz .u ≤ 8)
   small-z = cell-small (direction (s .args .d)) a3 g (s .args .z) (s .args .cz) (s .pre .0 .2) (omega arith) (s .pre .1 .0 .1)
 
   inside : row + s .args .new .w1 ≤ length (now (s .args .work))
@@ -76,15 +76,15 @@ module _ (c : tie.After-pivot) where
   low-x : g start * v w .x ≤ p
   low-x = step-x (start .args .d) (g start) (widths (start .args .old)) (now (start .args .net)) (widths (start .args .new)) (start .args .y) (start .args .z) (start .pre .0 .5) (w .before .if1 .left) (v w) (w .vector-of .ensures) (start .args .cy) (start .args .cz) (start .pre .1 .0 .0) (start .pre .1 .0 .1) p (c .pivot .ensures)
 
-  low-y : g start * v w .y ≤ start .args .cy .k + lowerAbove p (start .args .cy .u)
+  low-y : g start * v w .y ≤ start .args .cy .base + lowerAbove p (start .args .cy .u)
   low-y = step-y (start .args .d) (g start) (widths (start .args .old)) (now (start .args .net)) (widths (start .args .new)) (start .args .y) (start .args .z) (start .pre .0 .5) (w .before .if1 .left) (v w) (w .vector-of .ensures) (start .args .cy) (start .args .cz) (start .pre .1 .0 .0) (start .pre .1 .0 .1) p (c .pivot .ensures)
 
-  low-z : g start * v w .z ≤ start .args .cz .k + lowerAbove p (start .args .cz .u)
+  low-z : g start * v w .z ≤ start .args .cz .base + lowerAbove p (start .args .cz .u)
   low-z = step-z (start .args .d) (g start) (widths (start .args .old)) (now (start .args .net)) (widths (start .args .new)) (start .args .y) (start .args .z) (start .pre .0 .5) (w .before .if1 .left) (v w) (w .vector-of .ensures) (start .args .cy) (start .args .cz) (start .pre .1 .0 .0) (start .pre .1 .0 .1) p (c .pivot .ensures)
 
   differences-of : (x : ℕ) → x < start .args .new .w1
       → f start (row start + x)
-      ≡ stepDifference (widths (start .args .old)) (now (start .args .net)) (record { x = g start * v w .x; y = g start * v w .y; z = g start * v w .z }) (nearCoordinate (g start) p (g start * v w .x) x) (start .args .cy .k + lowerAbove p (start .args .cy .u) - g start * v w .y) (start .args .cz .k + lowerAbove p (start .args .cz .u) - g start * v w .z)
+      ≡ stepDifference (widths (start .args .old)) (now (start .args .net)) (record { x = g start * v w .x; y = g start * v w .y; z = g start * v w .z }) (nearCoordinate (g start) p (g start * v w .x) x) (start .args .cy .base + lowerAbove p (start .args .cy .u) - g start * v w .y) (start .args .cz .base + lowerAbove p (start .args .cz .u) - g start * v w .z)
   differences-of = row-difference (start .args .d) (g start) (widths (start .args .old)) (now (start .args .net)) (widths (start .args .new)) (start .args .y) (start .args .z) (start .pre .0 .5) (w .before .if1 .left) (v w) (w .vector-of .ensures) (start .args .cy) (start .args .cz) (start .pre .1 .0 .0) (start .pre .1 .0 .1) p (c .pivot .ensures)
 
 mul-i : tie.Need-mul-i
@@ -162,7 +162,7 @@ returns-2 c =
     let r = c .before .before .before .before .before .before .before .before .before in
     let q = start r in
     done q (c .before .difference-across .last .1 .0) (c .before .difference-across .ensures (f q) (λ x l. differences-of r x l
-    ∙ ap₂ (λ (m n : ℕ). stepDifference (widths (q .args .old)) (now (q .args .net)) (record { x = g q * v (w r) .x; y = g q * v (w r) .y; z = g q * v (w r) .z }) (nearCoordinate (g q) (p r) (g q * v (w r) .x) x) (q .args .cy .k + m - g q * v (w r) .y) (q .args .cz .k + n - g q * v (w r) .z)) (sym (c .before .before .before .before .before .before .before .before .lower .ensures)) (sym (c .before .before .before .before .before .lower2 .ensures))) (q .pre .1 .1 .1))
+    ∙ ap₂ (λ (m n : ℕ). stepDifference (widths (q .args .old)) (now (q .args .net)) (record { x = g q * v (w r) .x; y = g q * v (w r) .y; z = g q * v (w r) .z }) (nearCoordinate (g q) (p r) (g q * v (w r) .x) x) (q .args .cy .base + m - g q * v (w r) .y) (q .args .cz .base + n - g q * v (w r) .z)) (sym (c .before .before .before .before .before .before .before .before .lower .ensures)) (sym (c .before .before .before .before .before .lower2 .ensures))) (q .pre .1 .1 .1))
 
 pub difference-row-spec : {M : Type 1} → statement M
 difference-row-spec =

@@ -61,7 +61,7 @@ loop-holds c =
     (omega arith, ap (λ (v : Vector). cellAt (g q * v .z)) (c .before .vector-of .ensures) ∙ sym (first-cell (g q) (g q * component (d q) a3) (step-small (d q) a3 (g q))), refl, sym (fill-none (f q) (now (q .args .work))) ∙ ap (λ (k : ℕ). filled (f q) k (now (q .args .work))) e)
   where
     cellAt : ℕ → Cell
-    cellAt u = record { k = 0; u = u }
+    cellAt u = record { base = 0; u = u }
 
 difference-layer-requires : tie.Need-difference-layer-requires Inv-loop μ-loop
 difference-layer-requires c κs =

@@ -13,7 +13,7 @@ add-t4 c = search needs
 returns : tie.Need-returns
 returns c =
     let q = c .before .before .before in
-    λ n h. let k : q .args .c .k ≡ q .args .g * (n / suc (q .args .g)) = ap (λ (t : Cell). t .k) h in
+    λ n h. let k : q .args .c .base ≡ q .args .g * (n / suc (q .args .g)) = ap (λ (t : Cell). t .base) h in
     let u : q .args .c .u ≡ n % suc (q .args .g) = ap (λ (t : Cell). t .u) h in
     rw (k, u) (sym (next-within (q .args .g) n (omega arith)))
 
@@ -23,7 +23,7 @@ add-t5 c = search needs
 returns-2 : tie.Need-returns-2
 returns-2 c =
     let q = c .before .before .before in
-    λ n h. let k : q .args .c .k ≡ q .args .g * (n / suc (q .args .g)) = ap (λ (t : Cell). t .k) h in
+    λ n h. let k : q .args .c .base ≡ q .args .g * (n / suc (q .args .g)) = ap (λ (t : Cell). t .base) h in
     let u : q .args .c .u ≡ n % suc (q .args .g) = ap (λ (t : Cell). t .u) h in
     rw k (sym (next-carries (q .args .g) n (omega arith)))
 

@@ -13,7 +13,7 @@ use Rattle.net.specs.Passes.{rowEnd}
 use Rattle.net.proofs.differences.row_ends.Tie as tie
 
 abbrev Inv-loop : tie.InvT-loop
-Inv-loop s y z g ends₀ u₀ ends u = (u ≤ g + 1) × (length ends ≡ 9) × ((j : ℕ) → j < u → getD ends j 0 ≡ rowEnd (widths s) (pos (y .k + lowerAbove j (y .u))) (pos (z .k + lowerAbove j (z .u))))
+Inv-loop s y z g ends₀ u₀ ends u = (u ≤ g + 1) × (length ends ≡ 9) × ((j : ℕ) → j < u → getD ends j 0 ≡ rowEnd (widths s) (pos (y .base + lowerAbove j (y .u))) (pos (z .base + lowerAbove j (z .u))))
 
 abbrev μ-loop : tie.MeasureT-loop
 μ-loop s y z g ends₀ u₀ ends u = g + 1 - u
@@ -56,10 +56,10 @@ loop-again : tie.Need-loop-again Inv-loop μ-loop
 loop-again c =
     let q = c .before .before .before .before .before .before .before in
     let l = c .before .before .before .before .before .before .loop in
-    let here : getD (set (l .ends) (l .u) (c .end-of .result)) (l .u) 0 ≡ rowEnd (widths (q .args .s)) (pos (q .args .y .k + lowerAbove (l .u) (q .args .y .u))) (pos (q .args .z .k + lowerAbove (l .u) (q .args .z .u)))
+    let here : getD (set (l .ends) (l .u) (c .end-of .result)) (l .u) 0 ≡ rowEnd (widths (q .args .s)) (pos (q .args .y .base + lowerAbove (l .u) (q .args .y .u))) (pos (q .args .z .base + lowerAbove (l .u) (q .args .z .u)))
     = getD-set-same (l .ends) (l .u) (c .end-of .result) 0 (omega arith)
     ∙ c .end-of .ensures
-    ∙ ap₂ (λ (b e : ℕ). rowEnd (widths (q .args .s)) (pos (q .args .y .k + b)) (pos (q .args .z .k + e))) (c .before .before .before .before .lower .ensures) (c .before .before .lower2 .ensures) in (
+    ∙ ap₂ (λ (b e : ℕ). rowEnd (widths (q .args .s)) (pos (q .args .y .base + b)) (pos (q .args .z .base + e))) (c .before .before .before .before .lower .ensures) (c .before .before .lower2 .ensures) in (
       omega arith,
       length-set (l .ends) (l .u) (c .end-of .result) ∙ l .inv .1,
       below-more _ (l .u) (λ j k. getD-set-other (l .ends) (l .u) j (c .end-of .result) 0 (λ e. omega arith) ∙ l .inv .2 j k) here,

@@ -21,15 +21,15 @@ module _ (c : tie.In-loop Inv-loop μ-loop) where
   start = c .before .before .before .before .before
 
   -- the row of this turn
-  here : (let a = start .args in let f = a .f in let i = c .before .loop .i in
+  here : (let a = start .args in let f = a .f in let i = c .before .loop .i2 in
       InRow (length (a .net .now)) (length (a .corrections .now)) (length (a .uncertainties .now)) (f .m) (f .e1) (a .at + f .m * f .w1 * i) (f .k1 + f .n1 * (f .k2 - i + a .y)))
-  here = start .pre .0 .rows (c .before .loop .i) (c .loop-test .taken)
+  here = start .pre .0 .rows (c .before .loop .i2) (c .loop-test .taken)
 
-  entry-small : start .args .f .n1 * (start .args .f .k2 - c .before .loop .i + start .args .y) ≤ 64 * 4160
+  entry-small : start .args .f .n1 * (start .args .f .k2 - c .before .loop .i2 + start .args .y) ≤ 64 * 4160
   entry-small =
       let p = start .pre .0 in
       let l = p .limits in
-      let b : start .args .f .k2 - c .before .loop .i + start .args .y ≤ 4160 = omega arith in
+      let b : start .args .f .k2 - c .before .loop .i2 + start .args .y ≤ 4160 = omega arith in
       mul-le-mul (l .size1) b
 
 mul-step : tie.Need-mul-step Inv-loop μ-loop
@@ -59,8 +59,8 @@ add-row-sums-3 c = let l = c .before .before .before .before .before .pre .0 .li
 row-sums-requires : tie.Need-row-sums-requires Inv-loop μ-loop
 row-sums-requires c κs = (here c, small-more 4080 (c .before .loop .inv .2 3840 (start c .pre .1)) (let l = start c .pre .0 .limits in omega arith))
 
-add-i : tie.Need-add-i Inv-loop μ-loop
-add-i c = omega arith
+add-i2 : tie.Need-add-i2 Inv-loop μ-loop
+add-i2 c = omega arith
 
 loop-less : tie.Need-loop-less Inv-loop μ-loop
 loop-less c = omega arith
@@ -70,14 +70,14 @@ loop-again c =
     let s = c .before .before .before .before .before .before in
     let at = c .before .before .loop in
     let r = c .row-sums .ensures in
-    (omega arith, r .0 ∙ sums-on _ (at .i) (s .args .from) (at .inv .1) refl, λ n h. small-more (n + (at .i + 1) * 16) (r .1 (n + at .i * 16) (at .inv .2 n h)) (omega arith))
+    (omega arith, r .0 ∙ sums-on _ (at .i2) (s .args .from) (at .inv .1) refl, λ n h. small-more (n + (at .i2 + 1) * 16) (r .1 (n + at .i2 * 16) (at .inv .2 n h)) (omega arith))
 
 returns : tie.Need-returns Inv-loop μ-loop
 unfolding planeSums
 returns c =
     let s = c .before .before .before .before .before in
     let at = c .before .loop in
-    let e : at .i ≡ s .args .f .e2 = omega arith in
+    let e : at .i2 ≡ s .args .f .e2 = omega arith in
     let l = s .pre .0 .limits in
     (rw (← e) (at .inv .1), λ n h. small-more (n + 256) (at .inv .2 n h) (omega arith))
 
@@ -96,7 +96,7 @@ plane-sums-spec =
     mul-row-sums-2
     add-row-sums-3
     row-sums-requires
-    add-i
+    add-i2
     loop-less
     loop-again
     returns)

@@ -27,8 +27,8 @@ abbrev μ-loop : tie.MeasureT-loop
 loop-holds : tie.Need-loop-holds Inv-loop μ-loop
 loop-holds c = (omega arith, sums-start _ (c .before .before .args .from), λ n h. small-more (n + 0) h (omega arith))
 
-up : (c : tie.In-loop Inv-loop μ-loop) → (let s = c .before .before .before .before in s .args .at + s .args .m * c .before .loop .i < length (s .args .net .now))
-up c = c .before .before .before .before .pre .0 .in-net (c .before .loop .i) (c .loop-test .taken)
+up : (c : tie.In-loop Inv-loop μ-loop) → (let s = c .before .before .before .before in s .args .at + s .args .m * c .before .loop .i1 < length (s .args .net .now))
+up c = c .before .before .before .before .pre .0 .in-net (c .before .loop .i1) (c .loop-test .taken)
 
 mul-entry-sums : tie.Need-mul-entry-sums Inv-loop μ-loop
 mul-entry-sums c = omega (arith, up c)
@@ -69,8 +69,8 @@ added-requires c κs =
     let at = c .before .before .before .before .before .loop in
     (small-more 4096 (at .inv .2 4080 (s .pre .1)) (let h = s .pre .0 .few in omega arith), small-more 4096 (c .entry-sums .ensures .1) (omega arith))
 
-add-i : tie.Need-add-i Inv-loop μ-loop
-add-i c = omega arith
+add-i1 : tie.Need-add-i1 Inv-loop μ-loop
+add-i1 c = omega arith
 
 loop-less : tie.Need-loop-less Inv-loop μ-loop
 loop-less c = omega arith
@@ -79,17 +79,17 @@ loop-again : tie.Need-loop-again Inv-loop μ-loop
 loop-again c =
     let s = c .before .before .before .before .before .before .before .before .before in
     let at = c .before .before .before .before .before .before .loop in
-    let f : SFits w16 (getD (s .args .corrections .now) (s .args .entry - at .i) (pos 0)) = record { sfits = c .before .before .before .entry-sums-arg .given } in
-    let e : c .before .entry-sums .result ≡ entries (s .args .net .now) (s .args .corrections .now) (s .args .uncertainties .now) (s .args .m) (s .args .at) (s .args .entry) (at .i) =
+    let f : SFits w16 (getD (s .args .corrections .now) (s .args .entry - at .i1) (pos 0)) = record { sfits = c .before .before .before .entry-sums-arg .given } in
+    let e : c .before .entry-sums .result ≡ entries (s .args .net .now) (s .args .corrections .now) (s .args .uncertainties .now) (s .args .m) (s .args .at) (s .args .entry) (at .i1) =
     simp toZ-ofZ at (c .before .entry-sums .ensures .0) in
-    (omega arith, c .added .ensures ∙ sums-on _ (at .i) (s .args .from) (at .inv .1) e, λ n h. rw (c .added .ensures) (small-add (n + (at .i + 1)) (at .inv .2 n h) (c .before .entry-sums .ensures .1) (omega arith)))
+    (omega arith, c .added .ensures ∙ sums-on _ (at .i1) (s .args .from) (at .inv .1) e, λ n h. rw (c .added .ensures) (small-add (n + (at .i1 + 1)) (at .inv .2 n h) (c .before .entry-sums .ensures .1) (omega arith)))
 
 returns : tie.Need-returns Inv-loop μ-loop
 unfolding rowSums
 returns c =
     let s = c .before .before .before .before in
     let at = c .before .loop in
-    let e : at .i ≡ s .args .count = omega arith in
+    let e : at .i1 ≡ s .args .count = omega arith in
     (at .inv .1 ∙ ap (λ (n : ℕ). addSums (s .args .from) (sumsTo n (entries (s .args .net .now) (s .args .corrections .now) (s .args .uncertainties .now) (s .args .m) (s .args .at) (s .args .entry)))) e, λ n h. small-more (n + 16) (at .inv .2 n h) (let l = s .pre .0 .few in omega arith))
 
 pub row-sums-spec : {M : Type 1} → statement M
@@ -111,7 +111,7 @@ row-sums-spec =
     shared-slice-read-entry-sums-2
     entry-sums-requires
     added-requires
-    add-i
+    add-i1
     loop-less
     loop-again
     returns)

@@ -23,9 +23,9 @@ planes-of s j =
     planeSums (numberAt (s .args .net .now)) (λ k. getD (s .args .corrections .now) k (pos 0)) (numberAt (s .args .uncertainties .now)) f (s .args .at + f .m * (f .w1 * f .w2) * j) (f .n2 * (f .k3 - j))
 
 -- the plane of this turn
-here : (c : tie.In-loop Inv-loop μ-loop) → (let a = c .before .before .before .before .before .before .args in let f = a .f in let i = c .before .loop .i in
+here : (c : tie.In-loop Inv-loop μ-loop) → (let a = c .before .before .before .before .before .before .args in let f = a .f in let i = c .before .loop .i3 in
     InPlane (length (a .net .now)) (length (a .corrections .now)) (length (a .uncertainties .now)) f (a .at + f .m * (f .w1 * f .w2) * i) (f .n2 * (f .k3 - i)))
-here c = c .before .before .before .before .before .before .pre .planes (c .before .loop .i) (c .loop-test .taken)
+here c = c .before .before .before .before .before .before .pre .planes (c .before .loop .i3) (c .loop-test .taken)
 
 mul-step : tie.Need-mul-step Inv-loop μ-loop
 mul-step c = let l = c .before .before .before .pre .limits in omega (arith, mul-le-mul (l .width1) (l .width2))
@@ -51,8 +51,8 @@ mul-plane-sums-2 c = omega (arith, here c .layer)
 plane-sums-requires : tie.Need-plane-sums-requires Inv-loop μ-loop
 plane-sums-requires c κs = (here c, small-more 3840 (c .before .loop .inv .2) (let l = c .before .before .before .before .before .before .pre .limits in omega arith))
 
-add-i : tie.Need-add-i Inv-loop μ-loop
-add-i c = omega arith
+add-i3 : tie.Need-add-i3 Inv-loop μ-loop
+add-i3 c = omega arith
 
 loop-less : tie.Need-loop-less Inv-loop μ-loop
 loop-less c = omega arith
@@ -61,13 +61,13 @@ loop-again : tie.Need-loop-again Inv-loop μ-loop
 loop-again c =
     let at = c .before .before .loop in
     let r = c .plane-sums .ensures in
-    (omega arith, r .0 ∙ sums-next _ (at .i) (at .inv .1) refl, small-more ((at .i + 1) * 256) (r .1 (at .i * 256) (at .inv .2)) (omega arith))
+    (omega arith, r .0 ∙ sums-next _ (at .i3) (at .inv .1) refl, small-more ((at .i3 + 1) * 256) (r .1 (at .i3 * 256) (at .inv .2)) (omega arith))
 
 returns : tie.Need-returns Inv-loop μ-loop
 unfolding windowSums
 returns c = let s = c .before .before .before .before .before .before in
     let at = c .before .loop in
-    let e : at .i ≡ s .args .f .e3 = omega arith in
+    let e : at .i3 ≡ s .args .f .e3 = omega arith in
     let l = s .pre .limits in
     let h : at .t ≡ sumsTo (s .args .f .e3) (planes-of s) = rw e at (at .inv .1) in
     (h, small-more 4096 (at .inv .2) (omega arith))
@@ -86,7 +86,7 @@ window-sums-spec =
     sub-plane-sums
     mul-plane-sums-2
     plane-sums-requires
-    add-i
+    add-i3
     loop-less
     loop-again
     returns)
