@@ -11,6 +11,7 @@ use Rattle.sums.specs.Search.{Found, at, first, nowhere}
 use Rattle.spline.specs.Box.{places, width}
 use Rattle.spline.specs.Multiplicities.{Multiplicities, allowed, degree}
 use Rattle.spline.specs.Place.{Axis}
+use Rattle.unit.proofs.Checks.{unit-refused}
 use Rattle.unit.specs.Checks.{andThen, passedOr, refuseAt, refuseIf}
 use Rattle.unit.specs.Unit.{hasBlock, hasNet, netOf, sizesAllowed}
 use Rattle.unit.specs.declared.Checked.{Checked}
@@ -22,6 +23,7 @@ use Rattle.net.specs.Order.{badByte, buildChecks, orderChecks, orderPlaces}
 use Rattle.inspection.specs.Inspect.{definedNumber, differsFrom, inspectAnswer, inspectChecks}
 use Rattle.field.specs.File.{entryCount, fileLength, headerLength, size1, size2, size3, uncertainty}
 use Rattle.field.specs.Load.{layoutChecks, limitCheck, loadAnswer, loadChecks, loadCorrections, loadUncertainties, roomCheck}
+use Rattle.placing.proofs.Placed.{refused-by}
 use Rattle.placing.specs.Place.{limit, placeAnswer, pointChecks, scale, unitChecks}
 use Rattle.placing.specs.Placing.{cell, cells, inside, placing, sizes}
 use Rattle.placing.specs.declared.Placing.{Placing}
@@ -95,14 +97,6 @@ point-numbered u x y z D =
 
 -- ---- the answers
 
-unit-stopped : (k : Checked) (u : Unit) {r : Refusal} → passedOr k (units.Changed u) units.Refused ≡ units.Refused r → k ≡ Stopped r
-unit-stopped Passed u h = let z : _≡_ {A = ℕ} 0 1 = cc in absurd (omega arith)
-unit-stopped (Stopped s) u h = cc
-
-place-stopped : (k : Checked) (q : Placing) {r : Refusal} → passedOr k (placings.Placed q) placings.Refused ≡ placings.Refused r → k ≡ Stopped r
-place-stopped Passed q h = let z : _≡_ {A = ℕ} 0 1 = cc in absurd (omega arith)
-place-stopped (Stopped s) q h = cc
-
 stopped-numbered : {k : Checked} {r : Refusal} → Numbered k → k ≡ Stopped r → listed (r .number) ≡ true
 stopped-numbered l e = subst Numbered e l
 
@@ -128,10 +122,10 @@ pub numbers : (r : Refusal)
     × ((u : Unit) (net : List ℕ) (corrections : List ℤ) (uncertainties : List ℕ) (x y z D : ℕ) → pointAnswer u net corrections uncertainties x y z D ≡ points.Refused r → listed (r .number) ≡ true)
 unfolding buildAnswer inspectAnswer loadAnswer placeAnswer pointAnswer
 numbers r = (
-  λ u order net work h. stopped-numbered (build-numbered order net work) (unit-stopped (buildChecks order net work) _ h),
-  λ u v net defined work h. stopped-numbered (inspect-numbered v net defined work) (unit-stopped (inspectChecks v net defined work) _ h),
-  λ u file corrections uncertainties h. stopped-numbered (load-numbered file (length corrections) (length uncertainties)) (unit-stopped (loadChecks file (length corrections) (length uncertainties)) _ h),
-  λ u x y z D h. stopped-numbered (then-numbered (unitChecks u) (pointChecks u x y z D) (unit-numbered u) (point-numbered u x y z D)) (place-stopped (andThen (unitChecks u) (pointChecks u x y z D)) _ h),
+  λ u order net work h. stopped-numbered (build-numbered order net work) (unit-refused (buildChecks order net work) _ h),
+  λ u v net defined work h. stopped-numbered (inspect-numbered v net defined work) (unit-refused (inspectChecks v net defined work) _ h),
+  λ u file corrections uncertainties h. stopped-numbered (load-numbered file (length corrections) (length uncertainties)) (unit-refused (loadChecks file (length corrections) (length uncertainties)) _ h),
+  λ u x y z D h. stopped-numbered (then-numbered (unitChecks u) (pointChecks u x y z D) (unit-numbered u) (point-numbered u x y z D)) (refused-by (andThen (unitChecks u) (pointChecks u x y z D)) _ h),
   λ u net corrections uncertainties x y z D h.
       let k = lentChecks u (length net) (length corrections) (length uncertainties) in
       point-refused (andThen k (pointChecks u x y z D)) _ (then-numbered k (pointChecks u x y z D) (lent-numbered u (length net) (length corrections) (length uncertainties)) (point-numbered u x y z D))
@@ -147,6 +141,6 @@ pub unchanged : (r : Refusal)
     → (loadCorrections file corrections uncertainties ≡ corrections) × (loadUncertainties file corrections uncertainties ≡ uncertainties))
 unfolding buildAnswer buildNet buildWork loadAnswer loadCorrections loadUncertainties
 unchanged r = (
-  λ u order net before after h w. let e = unit-stopped (buildChecks order (length net) (length before)) _ h in (rw e refl, rw e at w),
-  λ u file corrections uncertainties h. let e = unit-stopped (loadChecks file (length corrections) (length uncertainties)) _ h in (rw e refl, rw e refl),
+  λ u order net before after h w. let e = unit-refused (buildChecks order (length net) (length before)) _ h in (rw e refl, rw e at w),
+  λ u file corrections uncertainties h. let e = unit-refused (loadChecks file (length corrections) (length uncertainties)) _ h in (rw e refl, rw e refl),
 )

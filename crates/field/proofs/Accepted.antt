@@ -1,14 +1,12 @@
 -- A file's layout, and a load, to which no refusal applies: the facts that this gives, and back.
-use mathlib.Core.Bool.{Bool, _||_, false, true}
 use mathlib.Core.List.{List}
-use mathlib.Core.Path.{_≡_, refl}
+use mathlib.Core.Path.{_≡_}
 use Prim.Native.Nat.{_<_, _≤_, ℕ}
-use native.Mathlib.Omega.{arith}
 use borrow.Author.Tests.{eq-eqb, eqb-true, le-ltb, ltb-false, not-false}
 use lib.Dec.{ltb}
 use lib.ListN.{length}
 use Rattle.sums.proofs.Search.{first-nowhere, nowhere-first}
-use Rattle.unit.proofs.Checks.{at-passed, if-passed, then-passed}
+use Rattle.unit.proofs.Checks.{at-passed, if-passed, or-false, then-passed}
 use Rattle.unit.proofs.Limits.{BlockLimits, limits-sizes, sizes-limits}
 use Rattle.unit.specs.declared.Checked.the-variants.{Passed}
 use Rattle.field.specs.File.{entryCount, fileLength, headerLength, size1, size2, size3, uncertainty}
@@ -24,10 +22,6 @@ pub record LoadAccepted (file : List ℕ) (corrections uncertainties : ℕ) : Ty
   pub limited : (i : ℕ) → i < entryCount file → uncertainty file i ≤ 32767
   pub room1 : entryCount file ≤ corrections
   pub room2 : entryCount file ≤ uncertainties
-
-neither : (a b : Bool) → (a || b) ≡ false → (a ≡ false) × (b ≡ false)
-neither true b h = let z : _≡_ {A = ℕ} 0 1 = cc in absurd (omega arith)
-neither false b h = (refl, h)
 
 -- ---- the layout
 
@@ -56,7 +50,7 @@ module _ (file : List ℕ) (corrections uncertainties : ℕ) where
   load-accepted h =
       let p = then-passed (layoutChecks file) _ h in
       let q = then-passed (limitCheck (entryCount file) (uncertainty file)) _ (p .1) in
-      let r = neither _ _ (if-passed 9 _ _ (q .1) .0) in
+      let r = or-false _ _ (if-passed 9 _ _ (q .1) .0) in
       record {
         layout = layout-accepted file (p .0);
         limited = λ i l. ltb-false _ _ (first-nowhere _ (entryCount file) (at-passed 8 _ Passed (q .0) .0) i l);

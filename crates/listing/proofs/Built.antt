@@ -1,6 +1,6 @@
--- What a build for a listing has left: its answer taken apart, and a unit and a slice that can be listed.
+-- What a build for a listing has left: a unit and a slice that can be listed.
 use mathlib.Core.List.{List, _++_, map}
-use mathlib.Core.Path.{_∙_, _≡_, ap, refl, sym}
+use mathlib.Core.Path.{_∙_, _≡_, ap, sym}
 use Prim.Native.Nat.{_<_, _≤_, ℕ}
 use native.Mathlib.Omega.{arith}
 use lib.ListN.{List·getD-append, drop, getD, length, length-append, length-map}
@@ -9,13 +9,8 @@ use Rattle.spline.proofs.Multiplicities.{order-degree, order-positive}
 use Rattle.spline.specs.Box.{netList, placeOf}
 use Rattle.spline.specs.Build.{direction, orderNet}
 use Rattle.spline.specs.Multiplicities.{orderMultiplicities}
-use Rattle.unit.specs.Checks.{passedOr}
 use Rattle.unit.specs.Unit.{emptyUnit, withNet}
-use Rattle.unit.specs.declared.Checked.{Checked}
-use Rattle.unit.specs.declared.Checked.the-variants.{Passed, Stopped}
-use Rattle.unit.specs.declared.Refusal.{Refusal}
-use Rattle.unit.specs.declared.Unit.{Unit}
-use Rattle.unit.specs.declared.UnitAnswer.the-variants.{Changed, Refused}
+use Rattle.unit.specs.declared.Checked.the-variants.{Passed}
 use Rattle.net.proofs.Accepted.{BuildAccepted, build-accepted}
 use Rattle.net.proofs.Orders.{order-at-most}
 use Rattle.net.specs.Build.{buildNet}
@@ -23,19 +18,6 @@ use Rattle.net.specs.Order.{buildChecks, orderNumber, orderPlaces, orderWidth}
 use Rattle.listing.proofs.Printed.{net-text-cong, printed-made}
 use Rattle.listing.specs.Fit.{Listed}
 use Rattle.listing.specs.Print.{netText, printedOrder}
-
--- ---- the answer
-pub record Made (k : Checked) (w u : Unit) : Type 0 where
-  pub passed : k ≡ Passed
-  pub unit : u ≡ w
-
-pub answer-made : (k : Checked) (w u : Unit) → passedOr k (Changed w) Refused ≡ Changed u → Made k w u
-answer-made Passed w u h = record { passed = refl; unit = cc }
-answer-made (Stopped r) w u h = let z : _≡_ {A = ℕ} 0 1 = cc in absurd (omega arith)
-
-pub answer-refused : (k : Checked) (w : Unit) (r : Refusal) → passedOr k (Changed w) Refused ≡ Refused r → k ≡ Stopped r
-answer-refused Passed w r h = let z : _≡_ {A = ℕ} 0 1 = cc in absurd (omega arith)
-answer-refused (Stopped q) w r h = cc
 
 -- ---- the slice and the unit
 module _ (o : List ℕ) (passed : buildChecks o 9261 9261 ≡ Passed) (before net : List ℕ) (long : length before ≡ 9261) (built : net ≡ buildNet o before 9261) where

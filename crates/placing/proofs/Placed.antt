@@ -46,7 +46,7 @@ placed u x y z D h =
 
 -- ---- what a placing call answered
 
-refused-by : (k : Checked) (q : Placing) {r : Refusal} → passedOr k (answers.Placed q) answers.Refused ≡ answers.Refused r → k ≡ Stopped r
+pub refused-by : (k : Checked) (q : Placing) {r : Refusal} → passedOr k (answers.Placed q) answers.Refused ≡ answers.Refused r → k ≡ Stopped r
 refused-by Passed q h = let z : _≡_ {A = ℕ} 0 1 = cc in absurd (omega arith)
 refused-by (Stopped s) q h = cc
 

@@ -1,13 +1,15 @@
--- Checks that passed, taken apart.
+-- Checks and the answers made of them, taken apart.
 use mathlib.Core.Bool.{Bool, _||_, false, true}
 use mathlib.Core.Path.{_≡_, refl, sym}
 use Prim.Native.Nat.{ℕ}
 use native.Mathlib.Omega.{arith}
 use Rattle.sums.specs.Search.{Found, at, nowhere}
-use Rattle.unit.specs.Checks.{andThen, refusal, refuseAt, refuseIf}
+use Rattle.unit.specs.Checks.{andThen, passedOr, refusal, refuseAt, refuseIf}
 use Rattle.unit.specs.declared.Checked.{Checked}
 use Rattle.unit.specs.declared.Checked.the-variants.{Passed, Stopped}
 use Rattle.unit.specs.declared.Refusal.{Refusal}
+use Rattle.unit.specs.declared.Unit.{Unit}
+use Rattle.unit.specs.declared.UnitAnswer.the-variants.{Changed, Refused}
 
 pub stopped-passed {ℓ} : {A : Type ℓ} (r : Refusal) → Stopped r ≡ Passed → A
 stopped-passed r h = let z : _≡_ {A = ℕ} 0 1 = cc in absurd (omega arith)
@@ -33,3 +35,12 @@ or-false false b h = (refl, h)
 pub if-stopped : (n : ℕ) (applies : Bool) (rest : Checked) (r : Refusal) → refuseIf n applies Passed ≡ Stopped r → refuseIf n applies rest ≡ Stopped r
 if-stopped n true rest r h = h
 if-stopped n false rest r h = stopped-passed r (sym h)
+
+-- the unit is changed where all checks passed, and a refusal is that of the checks
+pub unit-changed : (k : Checked) (w : Unit) {u : Unit} → passedOr k (Changed w) Refused ≡ Changed u → (k ≡ Passed) × (u ≡ w)
+unit-changed Passed w h = (refl, cc)
+unit-changed (Stopped r) w h = let z : _≡_ {A = ℕ} 0 1 = cc in absurd (omega arith)
+
+pub unit-refused : (k : Checked) (w : Unit) {r : Refusal} → passedOr k (Changed w) Refused ≡ Refused r → k ≡ Stopped r
+unit-refused Passed w h = let z : _≡_ {A = ℕ} 0 1 = cc in absurd (omega arith)
+unit-refused (Stopped s) w h = cc

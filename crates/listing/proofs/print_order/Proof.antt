@@ -5,13 +5,14 @@ use borrow.Author.Needs.{needs}
 use lib.ListN.{getD, length}
 use denote.Ref.{now}
 use Rattle.spline.specs.Multiplicities.{orderMultiplicities}
+use Rattle.unit.proofs.Checks.{unit-changed, unit-refused}
 use Rattle.unit.specs.Checks.{passedOr}
 use Rattle.unit.specs.Unit.{emptyUnit, netOf, withNet}
 use Rattle.unit.specs.declared.Unit.{Unit}
 use Rattle.unit.specs.declared.UnitAnswer.the-variants.{Changed, Refused}
 use Rattle.net.specs.Build.{buildAnswer}
 use Rattle.net.specs.Order.{buildChecks}
-use Rattle.listing.proofs.Built.{answer-made, answer-refused, listed, listed-text}
+use Rattle.listing.proofs.Built.{listed, listed-text}
 use Rattle.listing.proofs.Printed.{printed-refused}
 use Rattle.listing.proofs.print_order.Statement.{statement}
 use Rattle.listing.specs.Fit.{Listed}
@@ -55,8 +56,8 @@ slice-aggregate-put-net c = search needs
 put-net-requires : tie.Need-put-net-requires
 put-net-requires c κs =
     let b = c .before .before .before .before .before .before .before in
-    let m = answer-made (buildChecks (typed b) 9261 9261) _ _ (sym (answered b) ∙ c .before .before .before .answer .given .1) in
-    subst (λ (u : Unit). Listed u (net b) (length (now (start b .args .out)))) (sym (m .unit)) (listed (typed b) (m .passed) _ (net b) refl (b .build .ensures .1 .0) _ (start b .pre))
+    let m = unit-changed (buildChecks (typed b) 9261 9261) _ (sym (answered b) ∙ c .before .before .before .answer .given .1) in
+    subst (λ (u : Unit). Listed u (net b) (length (now (start b .args .out)))) (sym (m .1)) (listed (typed b) (m .0) _ (net b) refl (b .build .ensures .1 .0) _ (start b .pre))
 
 enum-known-answer-2 : tie.Need-enum-known-answer-2
 enum-known-answer-2 c = search needs
@@ -70,10 +71,10 @@ same-length c = search needs
 returns : tie.Need-returns
 returns c =
     let b = c .before .before .before .before .before .before .before .before .before .before in
-    let m = answer-made (buildChecks (typed b) 9261 9261) _ _ (sym (answered b) ∙ c .before .before .before .before .before .before .answer .given .1) in
+    let m = unit-changed (buildChecks (typed b) 9261 9261) _ (sym (answered b) ∙ c .before .before .before .before .before .before .answer .given .1) in
     let p = c .before .before .put-net in (
       subst (λ (t : List ℕ). Put t (now (start b .args .out)) (p .last .0) 0 (p .result))
-          (ap (λ (u : Unit). netText (netOf u) (λ i. getD (net b) i 0)) (m .unit) ∙ listed-text (typed b) (m .passed) _ (net b) refl (b .build .ensures .1 .0))
+          (ap (λ (u : Unit). netText (netOf u) (λ i. getD (net b) i 0)) (m .1) ∙ listed-text (typed b) (m .0) _ (net b) refl (b .build .ensures .1 .0))
           (p .ensures .0),
       p .ensures .1,
     )
@@ -85,7 +86,7 @@ returns-2 : tie.Need-returns-2
 returns-2 c =
     let b = c .before .before .before .before .before .before .before .before .before in
     let p = c .before .before .put-refusal in
-    let e = answer-refused (buildChecks (typed b) 9261 9261) _ _ (sym (answered b) ∙ c .before .before .before .before .before .answer2 .given .1) in
+    let e = unit-refused (buildChecks (typed b) 9261 9261) _ (sym (answered b) ∙ c .before .before .before .before .before .answer2 .given .1) in
     (subst (λ (t : List ℕ). Put t (now (start b .args .out)) (p .last .0) 0 (p .result)) (sym (printed-refused (typed b) _ e)) (p .ensures .0), p .ensures .1)
 
 pub print-order-spec : {M : Type 1} → statement M
