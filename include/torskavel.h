@@ -1,25 +1,39 @@
 /*
- * The calls of Torskavel for C and C++, in the archive that `rt staticlib c_api` writes, target/staticlib/libc_api.a, for
- * x86-64 Linux.
+ * Torskavel for C99, C++11 and later: the calls of the archive that `rt staticlib c_api` writes,
+ * target/staticlib/libc_api.a.
  *
- * A call answers or refuses by number, whatever numbers, bytes, lengths and unit it is handed. It allocates nothing,
- * keeps nothing and calls nothing outside the archive, so calls with slices of their own may run at the same time.
+ * A call answers or refuses by number, whatever numbers, bytes, counts and unit record it is handed; a refused call leaves
+ * the record and every slice as they were, but for the two work slices of an inspection.
  *
- * A slice is two arguments: a pointer to its first element and the count of its elements (not bytes). What the
- * archive cannot test, the caller owes:
+ * What the archive is:
  *
- *   - The pointer is not NULL and is aligned for its elements, also where the count is 0, and all counted elements may be
- *     read and, where the pointer is not to const, written until the call returns.
+ *   - Code for x86-64 Linux with its C calling convention, SSE2 and no later extension, position independent. A call wants
+ *     the stack pointer aligned to 16 bytes, and uses the 128 bytes below it (the red zone): an interrupt handler that
+ *     runs on the same stack must leave them alone.
+ *   - At most TORSKAVEL_MAX_CODE bytes of code and constants, no data that is written, no heap. Nothing is kept between
+ *     calls.
+ *   - It needs one function from outside, memset, for builds and inspections.
+ *   - A call takes at most TORSKAVEL_MAX_STACK bytes of stack, its arguments and return address and the red zone
+ *     included, what memset takes not included; torskavel_empty_unit and torskavel_load take at most
+ *     TORSKAVEL_MAX_STACK_LOAD.
+ *
+ * What the caller owes, since no call can test it. A slice is two arguments: a pointer to its first element and the count
+ * of its elements (not bytes).
+ *
+ *   - The pointer is aligned for its elements, and all counted elements may be read and, where the pointer is not to
+ *     const, written until the call returns. Where the count is 0 the pointer is not looked at: it may be NULL.
  *   - Every counted element has been given a value: memory fresh from malloc has not, from calloc it has.
- *   - A slice whose pointer is not to const overlaps no other slice of the same call. Slices that are only read may overlap.
- *   - has_net and has_block are 0 or 1. A bool that C assigned is; bytes copied into a unit from elsewhere may not be.
- *     All other bits of a unit are free: one whose values break the limits counts as having no net, or no block.
- *   - The padding of a unit answer has no promised value: compare fields, not bytes.
+ *   - A slice whose pointer is not to const overlaps no other slice of the same call. Slices that are only read may
+ *     overlap.
+ *   - While a call runs nobody else writes to its slices, and nobody reads those that it writes: a build, an inspection
+ *     or a load leaves them half-written until it returns. Calls that keep to this may run at the same time, as points
+ *     over one net and one block that nobody writes.
+ *
+ * The padding of an answer has no promised value: compare fields, not bytes. A unit has no padding.
  */
 #ifndef TORSKAVEL_H
 #define TORSKAVEL_H
 
-#include <stdbool.h>
 #include <stddef.h>
 #include <stdint.h>
 
@@ -27,54 +41,84 @@
 extern "C" {
 #endif
 
-/* The ceilings: an order's bytes, the sum of the four multiplicities, the degree, a point's divisor, a block's size on an
-   axis, a block's entries, and the places of the largest net's box. */
-#define TORSKAVEL_ORDER 8
-#define TORSKAVEL_MULTIPLICITIES 12
-#define TORSKAVEL_DEGREE 9
-#define TORSKAVEL_DIVISOR 4096
-#define TORSKAVEL_SIZE 64
-#define TORSKAVEL_ENTRIES 4096
-#define TORSKAVEL_PLACES 753571
+#define TORSKAVEL_VERSION_MAJOR 0
+#define TORSKAVEL_VERSION_MINOR 1
+#define TORSKAVEL_VERSION_PATCH 0
+
+#define TORSKAVEL_MAX_CODE 16384
+#define TORSKAVEL_MAX_STACK 2048
+#define TORSKAVEL_MAX_STACK_LOAD 256
+
+/* The limits: an order's bytes; the sum of the four multiplicities, each at least 1; a net's degree and places; a block's
+   size on an axis and its entries; a file's bytes, and an uncertainty in it; a point's divisor, and its denominator. */
+#define TORSKAVEL_MAX_ORDER 8
+#define TORSKAVEL_MAX_MULTIPLICITY_SUM 12
+#define TORSKAVEL_MAX_DEGREE 9
+#define TORSKAVEL_MAX_PLACES 753571
+#define TORSKAVEL_MAX_SIZE 64
+#define TORSKAVEL_MAX_ENTRIES 4096
+#define TORSKAVEL_MAX_FILE 16390
+#define TORSKAVEL_MAX_UNCERTAINTY 32767
+#define TORSKAVEL_MAX_DIVISOR 4096
+#define TORSKAVEL_MAX_DENOMINATOR UINT64_C(281474976710656)
+
+/* The correction of an entry that was never measured. */
+#define TORSKAVEL_NEVER_MEASURED (-32768)
+
+/* For multiplicities within the limits, the degree m of their net, the places on an axis of its box, and its places
+   W1 * W2 * W3. Place (x, y, z) has the index x + W1 * (y + W2 * z). */
+#define TORSKAVEL_DEGREE(v1, v2, v3, v4) ((size_t)(v1) + (size_t)(v2) + (size_t)(v3) + (size_t)(v4) - 3)
+#define TORSKAVEL_WIDTH(degree, vb, v4) ((size_t)(degree) * ((size_t)(vb) + (size_t)(v4)) + 1)
+#define TORSKAVEL_PLACES(v1, v2, v3, v4) \
+    (TORSKAVEL_WIDTH(TORSKAVEL_DEGREE(v1, v2, v3, v4), v1, v4) * \
+     TORSKAVEL_WIDTH(TORSKAVEL_DEGREE(v1, v2, v3, v4), v2, v4) * \
+     TORSKAVEL_WIDTH(TORSKAVEL_DEGREE(v1, v2, v3, v4), v3, v4))
+
+/* For three sizes, the entries of their block and the bytes of its file. Entry (j1, j2, j3) has the index
+   j1 + n1 * (j2 + n2 * j3). */
+#define TORSKAVEL_ENTRIES(n1, n2, n3) ((size_t)(n1) * (size_t)(n2) * (size_t)(n3))
+#define TORSKAVEL_FILE(n1, n2, n3) (6 + 4 * TORSKAVEL_ENTRIES(n1, n2, n3))
 
 /*
  * What a unit holds: a net of multiplicities v1 to v4, and a block of sizes n1, n2, n3. The numbers themselves stand in the
  * slices that the caller keeps and lends to each call.
  *
- * With degree m = v1 + v2 + v3 + v4 - 3 a net has W1 * W2 * W3 places, where Wb = m * (vb + v4) + 1, and place (x, y, z) has
- * the index x + W1 * (y + W2 * z). A block has n1 * n2 * n3 entries, and entry (j1, j2, j3) the index j1 + n1 * (j2 + n2 * j3).
+ * Any bytes may stand in it, as after a bad read of a flash memory. has_net and has_block say by 1 that there is one; every
+ * other byte counts as absent, and so do values that break the limits.
  */
 struct torskavel_unit {
-    bool has_net;
+    uint8_t has_net;
     uint8_t v1, v2, v3, v4;
-    bool has_block;
+    uint8_t has_block;
     uint16_t n1, n2, n3;
 };
 
 /*
- * The number of an answer is 0 where the call was not refused, and the place is 0 then. Else it is the first of these that
- * applies, in the order that stands at each call. The place is what is said here, and 0 where nothing is said.
- *
- *    1  the order is longer than 8
- *    2  a byte of the order is not 1 to 4; place: the position of the first such byte
- *    3  a multiplicity is 0, or their sum is above 12
- *    4  the net slice or a work slice is shorter than W1 * W2 * W3
- *    5  the file is under 6 bytes
- *    6  a size is not 1 to 64, or their product is above 4096
- *    7  the file's length is not 6 + 4 * n1 * n2 * n3
- *    8  an uncertainty is above 32767; place: the lowest index of such an entry
- *    9  a block slice is shorter than n1 * n2 * n3
- *   10  the divisor is 0 or above 4096
- *   11  the denominator m! * divisor^m would be above 2^48
- *   12  the point is not inside the block
- *   13  an entry that the point needs was never measured (-32768); place: the lowest index of such an entry
- *   14  the net differs from the defined one; place: the lowest index that differs
- *   21  the unit has no net
- *   22  the unit has no block
- *   23  the lent net is none that answers this point: its shares do not add up to m!
+ * The number of an answer: 0 where the call was not refused, else the first that applies, in the order that stands at each
+ * call. The place of an answer is what is said here, and 0 where nothing is said.
  */
+enum torskavel_refused {
+    TORSKAVEL_REFUSED_NOT = 0,
+    TORSKAVEL_REFUSED_ORDER_LENGTH = 1,    /* the order is longer than 8 */
+    TORSKAVEL_REFUSED_ORDER_BYTE = 2,      /* a byte of the order is not 1 to 4; place: the first such byte's position */
+    TORSKAVEL_REFUSED_MULTIPLICITIES = 3,  /* a multiplicity is 0, or their sum is above 12 */
+    TORSKAVEL_REFUSED_NET_LENGTH = 4,      /* the net slice or a work slice is shorter than W1 * W2 * W3 */
+    TORSKAVEL_REFUSED_FILE_HEADER = 5,     /* the file is under 6 bytes */
+    TORSKAVEL_REFUSED_SIZES = 6,           /* a size is not 1 to 64, or their product is above 4096 */
+    TORSKAVEL_REFUSED_FILE_LENGTH = 7,     /* the file's length is not 6 + 4 * n1 * n2 * n3 */
+    TORSKAVEL_REFUSED_UNCERTAINTY = 8,     /* an uncertainty of the file is above 32767; place: the lowest such entry */
+    TORSKAVEL_REFUSED_BLOCK_LENGTH = 9,    /* a block slice is shorter than n1 * n2 * n3 */
+    TORSKAVEL_REFUSED_DIVISOR = 10,        /* the divisor is 0 or above 4096 */
+    TORSKAVEL_REFUSED_DENOMINATOR = 11,    /* the denominator m! * divisor^m would be above 2^48 */
+    TORSKAVEL_REFUSED_OUTSIDE = 12,        /* the point is not inside the block */
+    TORSKAVEL_REFUSED_UNMEASURED = 13,     /* the point needs an entry that was never measured; place: the lowest such */
+    TORSKAVEL_REFUSED_NET_DIFFERS = 14,    /* the net is not the defined one; place: the lowest index that differs */
+    TORSKAVEL_REFUSED_NO_NET = 21,         /* the unit has no net */
+    TORSKAVEL_REFUSED_NO_BLOCK = 22,       /* the unit has no block */
+    TORSKAVEL_REFUSED_SHARES = 23          /* no net that answers this point was lent: its shares do not add up to m! */
+};
 
-/* The answer of a call that changes the unit. A refused call answers the unit as it was handed in. */
+/* The answer of a call that changes the unit. A refused call answers the unit as it was handed in, byte for byte. */
 struct torskavel_unit_answer {
     uint32_t number;
     size_t place;
@@ -99,7 +143,8 @@ struct torskavel_unit torskavel_empty_unit(void);
  * multiplicities 1, 1, 1, 1. Refused by 1, 2, 4.
  *
  * The net is written to the first W1 * W2 * W3 elements of net; those past it stay as they are. work needs as many
- * elements, and holds nothing of use afterwards. A refused build writes to neither.
+ * elements, also for the empty order, and holds nothing of use afterwards. A refused build writes to neither. The unit
+ * answered has the net, and keeps its block half byte for byte.
  */
 struct torskavel_unit_answer torskavel_build(
     struct torskavel_unit unit,
@@ -109,7 +154,8 @@ struct torskavel_unit_answer torskavel_build(
 
 /*
  * Inspects a net from elsewhere: whether the first W1 * W2 * W3 elements of net are the defined net of four
- * multiplicities. Where they are, the unit has that net. Refused by 3, 4, 14.
+ * multiplicities. Where they are, the unit answered has that net, and keeps its block half byte for byte. Refused by
+ * 3, 4, 14.
  *
  * defined and work need W1 * W2 * W3 elements each, and hold nothing of use afterwards, also where the call was refused.
  */
@@ -121,11 +167,11 @@ struct torskavel_unit_answer torskavel_inspect(
     int32_t *work, size_t work_length);
 
 /*
- * Loads a field file: n1, n2, n3, then n1 * n2 * n3 corrections (signed), then as many uncertainties, all in 16 bits, the low
- * byte first. Refused by 5, 6, 7, 8, 9.
+ * Loads a field file: n1, n2, n3, then n1 * n2 * n3 corrections (signed), then as many uncertainties, all in 16 bits, the
+ * low byte first. Refused by 5, 6, 7, 8, 9.
  *
  * The numbers are written to the first n1 * n2 * n3 elements of corrections and of uncertainties; those past them stay as
- * they are. A refused load writes to neither.
+ * they are. A refused load writes to neither. The unit answered has the block, and keeps its net half byte for byte.
  */
 struct torskavel_unit_answer torskavel_load(
     struct torskavel_unit unit,
@@ -137,7 +183,8 @@ struct torskavel_unit_answer torskavel_load(
  * Answers the point (x / divisor, y / divisor, z / divisor), counted in entries of the block, from the lent net and block.
  * Refused by 21, 22, 4, 9, 10, 11, 12, 13, 23, in this order. Writes to no slice.
  *
- * On axis b the point is inside where vb + v4 - 1 <= k <= nb - 1 for k, its coordinate divided by the divisor and rounded down.
+ * On axis b the point is inside where vb + v4 - 1 <= k <= nb - 1 for k, its coordinate divided by the divisor and rounded
+ * down. The limit on uncertainties is one of files: lent uncertainties may be any, up to 65535.
  */
 struct torskavel_point_answer torskavel_answer(
     struct torskavel_unit unit,
@@ -148,6 +195,35 @@ struct torskavel_point_answer torskavel_answer(
 
 #ifdef __cplusplus
 }
+#endif
+
+/* The layouts that the archive has. */
+#if defined(__cplusplus) && __cplusplus >= 201103L
+#define TORSKAVEL_ASSERT(fact) static_assert(fact, #fact)
+#define TORSKAVEL_ALIGN(type) alignof(type)
+#elif defined(__STDC_VERSION__) && __STDC_VERSION__ >= 201112L
+#define TORSKAVEL_ASSERT(fact) _Static_assert(fact, #fact)
+#define TORSKAVEL_ALIGN(type) _Alignof(type)
+#endif
+#ifdef TORSKAVEL_ASSERT
+TORSKAVEL_ASSERT(sizeof(struct torskavel_unit) == 12 && TORSKAVEL_ALIGN(struct torskavel_unit) == 2);
+TORSKAVEL_ASSERT(offsetof(struct torskavel_unit, has_net) == 0);
+TORSKAVEL_ASSERT(offsetof(struct torskavel_unit, v1) == 1 && offsetof(struct torskavel_unit, v2) == 2);
+TORSKAVEL_ASSERT(offsetof(struct torskavel_unit, v3) == 3 && offsetof(struct torskavel_unit, v4) == 4);
+TORSKAVEL_ASSERT(offsetof(struct torskavel_unit, has_block) == 5 && offsetof(struct torskavel_unit, n1) == 6);
+TORSKAVEL_ASSERT(offsetof(struct torskavel_unit, n2) == 8 && offsetof(struct torskavel_unit, n3) == 10);
+TORSKAVEL_ASSERT(sizeof(struct torskavel_unit_answer) == 32 && TORSKAVEL_ALIGN(struct torskavel_unit_answer) == 8);
+TORSKAVEL_ASSERT(offsetof(struct torskavel_unit_answer, number) == 0);
+TORSKAVEL_ASSERT(offsetof(struct torskavel_unit_answer, place) == 8);
+TORSKAVEL_ASSERT(offsetof(struct torskavel_unit_answer, unit) == 16);
+TORSKAVEL_ASSERT(sizeof(struct torskavel_point_answer) == 40 && TORSKAVEL_ALIGN(struct torskavel_point_answer) == 8);
+TORSKAVEL_ASSERT(offsetof(struct torskavel_point_answer, number) == 0);
+TORSKAVEL_ASSERT(offsetof(struct torskavel_point_answer, place) == 8);
+TORSKAVEL_ASSERT(offsetof(struct torskavel_point_answer, numerator) == 16);
+TORSKAVEL_ASSERT(offsetof(struct torskavel_point_answer, uncertainty) == 24);
+TORSKAVEL_ASSERT(offsetof(struct torskavel_point_answer, denominator) == 32);
+#undef TORSKAVEL_ASSERT
+#undef TORSKAVEL_ALIGN
 #endif
 
 #endif

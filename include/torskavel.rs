@@ -1,16 +1,95 @@
-//! The calls of Torskavel for Rust, in the archive that `rt staticlib c_api` writes: target/staticlib/libc_api.a. What each
-//! does stands in torskavel.h. The functions are safe: every Rust slice and bool keeps what a C caller owes.
+//! Torskavel for Rust: the calls of the archive that `rt staticlib c_api` writes, target/staticlib/libc_api.a. What each
+//! does, and what the archive needs, stands in torskavel.h. The functions are safe: every Rust slice keeps what a C caller
+//! owes.
 
-/// What a unit holds. Any values may stand in it.
+// A program may use any part of this file.
+#![allow(dead_code)]
+
+use core::mem::{align_of, offset_of, size_of};
+
+pub const VERSION_MAJOR: u32 = 0;
+pub const VERSION_MINOR: u32 = 1;
+pub const VERSION_PATCH: u32 = 0;
+
+/// The most bytes of code and constants of the archive.
+pub const MAX_CODE: usize = 16384;
+/// The most bytes of stack that a call takes, but for what memset takes.
+pub const MAX_STACK: usize = 2048;
+/// The most bytes of stack that `empty_unit` and `load` take.
+pub const MAX_STACK_LOAD: usize = 256;
+
+/// The most bytes of an order.
+pub const MAX_ORDER: usize = 8;
+/// The highest sum of the four multiplicities, each at least 1.
+pub const MAX_MULTIPLICITY_SUM: u32 = 12;
+/// The highest degree of a net.
+pub const MAX_DEGREE: u32 = 9;
+/// The most places of a net.
+pub const MAX_PLACES: usize = 753571;
+/// The largest size of a block on an axis.
+pub const MAX_SIZE: u16 = 64;
+/// The most entries of a block.
+pub const MAX_ENTRIES: usize = 4096;
+/// The bytes of the longest file.
+pub const MAX_FILE: usize = 16390;
+/// The largest uncertainty in a file.
+pub const MAX_UNCERTAINTY: u16 = 32767;
+/// The largest divisor of a point.
+pub const MAX_DIVISOR: u32 = 4096;
+/// The largest denominator of an answer.
+pub const MAX_DENOMINATOR: u64 = 281474976710656;
+/// The correction of an entry that was never measured.
+pub const NEVER_MEASURED: i16 = -32768;
+
+/// The numbers of refusals, and 0 for none.
+pub mod refused {
+    pub const NOT: u32 = 0;
+    pub const ORDER_LENGTH: u32 = 1;
+    pub const ORDER_BYTE: u32 = 2;
+    pub const MULTIPLICITIES: u32 = 3;
+    pub const NET_LENGTH: u32 = 4;
+    pub const FILE_HEADER: u32 = 5;
+    pub const SIZES: u32 = 6;
+    pub const FILE_LENGTH: u32 = 7;
+    pub const UNCERTAINTY: u32 = 8;
+    pub const BLOCK_LENGTH: u32 = 9;
+    pub const DIVISOR: u32 = 10;
+    pub const DENOMINATOR: u32 = 11;
+    pub const OUTSIDE: u32 = 12;
+    pub const UNMEASURED: u32 = 13;
+    pub const NET_DIFFERS: u32 = 14;
+    pub const NO_NET: u32 = 21;
+    pub const NO_BLOCK: u32 = 22;
+    pub const SHARES: u32 = 23;
+}
+
+/// The places of the net of four multiplicities that are within their limits.
+pub const fn places([v1, v2, v3, v4]: [u8; 4]) -> usize {
+    let [v1, v2, v3, v4] = [v1 as usize, v2 as usize, v3 as usize, v4 as usize];
+    let degree = (v1 + v2 + v3 + v4).saturating_sub(3);
+    (degree * (v1 + v4) + 1) * (degree * (v2 + v4) + 1) * (degree * (v3 + v4) + 1)
+}
+
+/// The entries of a block of three sizes.
+pub const fn entries([n1, n2, n3]: [u16; 3]) -> usize {
+    n1 as usize * n2 as usize * n3 as usize
+}
+
+/// The bytes of the file of a block of three sizes.
+pub const fn file_length(n: [u16; 3]) -> usize {
+    6 + 4 * entries(n)
+}
+
+/// What a unit holds. Any bytes may stand in it; of a flag, 1 says present, and every other byte counts as absent.
 #[repr(C)]
 #[derive(Clone, Copy, PartialEq, Eq, Debug)]
 pub struct Unit {
-    pub has_net: bool,
+    pub has_net: u8,
     pub v1: u8,
     pub v2: u8,
     pub v3: u8,
     pub v4: u8,
-    pub has_block: bool,
+    pub has_block: u8,
     pub n1: u16,
     pub n2: u16,
     pub n3: u16,
@@ -35,6 +114,20 @@ pub struct PointAnswer {
     pub uncertainty: u64,
     pub denominator: u64,
 }
+
+const _: () = {
+    assert!(size_of::<Unit>() == 12 && align_of::<Unit>() == 2);
+    assert!(offset_of!(Unit, has_net) == 0 && offset_of!(Unit, v1) == 1 && offset_of!(Unit, v2) == 2);
+    assert!(offset_of!(Unit, v3) == 3 && offset_of!(Unit, v4) == 4 && offset_of!(Unit, has_block) == 5);
+    assert!(offset_of!(Unit, n1) == 6 && offset_of!(Unit, n2) == 8 && offset_of!(Unit, n3) == 10);
+    assert!(size_of::<UnitAnswer>() == 32 && align_of::<UnitAnswer>() == 8);
+    assert!(offset_of!(UnitAnswer, number) == 0 && offset_of!(UnitAnswer, place) == 8);
+    assert!(offset_of!(UnitAnswer, unit) == 16);
+    assert!(size_of::<PointAnswer>() == 40 && align_of::<PointAnswer>() == 8);
+    assert!(offset_of!(PointAnswer, number) == 0 && offset_of!(PointAnswer, place) == 8);
+    assert!(offset_of!(PointAnswer, numerator) == 16 && offset_of!(PointAnswer, uncertainty) == 24);
+    assert!(offset_of!(PointAnswer, denominator) == 32);
+};
 
 unsafe extern "C" {
     safe fn torskavel_empty_unit() -> Unit;

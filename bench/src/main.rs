@@ -7,7 +7,6 @@ mod points;
 mod table;
 mod timing;
 #[path = "../../include/torskavel.rs"]
-#[allow(dead_code)]
 mod torskavel;
 
 fn main() {

@@ -36,7 +36,7 @@ impl Scene {
         let mut random = Random::new(1);
         let block = Block::random(Sizes::new([SIZE; 3]).expect("allowed sizes"), &mut random);
         let mut loaded = torskavel::empty_unit();
-        (loaded.has_block, loaded.n1, loaded.n2, loaded.n3) = (true, SIZE as u16, SIZE as u16, SIZE as u16);
+        (loaded.has_block, loaded.n1, loaded.n2, loaded.n3) = (1, SIZE as u16, SIZE as u16, SIZE as u16);
         let (mut net, mut work) = (vec![0; multiplicities.places()], vec![0; multiplicities.places()]);
         let order: Vec<u8> = (1..=4).flat_map(|d| vec![d; usize::from(v[usize::from(d) - 1]) - 1]).collect();
         let unit = torskavel::build(loaded, &order, &mut net, &mut work).unit;

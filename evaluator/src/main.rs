@@ -2,7 +2,7 @@
 
 use evaluator::net::{self, Multiplicities};
 use evaluator::{formats, query, shares, vectors};
-use std::io::{self, Read, Write};
+use std::io::{self, Write};
 use std::path::Path;
 use std::process::ExitCode;
 
@@ -13,7 +13,8 @@ usage: evaluator COMMAND
   digests                   one line about each of the 495 nets
   value V1 V2 V3 V4 X Y Z D
                             the box spline at (X/D, Y/D, Z/D), off all knot planes, by the recurrence word for word
-  shares-expected           what program shares prints, for each line of the standard input as its order
+  shares-expected           what program shares prints, for each line of the standard input: the bytes typed, in hexadecimal;
+                            before each print stands a line with its bytes
 
   point V1 V2 V3 V4 N1 N2 N3 X Y Z D BLOCK
                             a point's answer by the recurrence
@@ -43,13 +44,17 @@ fn digests() -> Outcome {
     Ok(())
 }
 
+fn bytes(hexadecimal: &str) -> Option<Vec<u8>> {
+    let digits: Option<Vec<u8>> = hexadecimal.chars().map(|c| c.to_digit(16).map(|digit| digit as u8)).collect();
+    digits.filter(|digits| digits.len() % 2 == 0).map(|digits| digits.chunks(2).map(|d| 16 * d[0] + d[1]).collect())
+}
+
 fn shares_expected() -> Outcome {
-    let mut input = Vec::new();
-    io::stdin().read_to_end(&mut input).map_err(|e| e.to_string())?;
+    let input = io::read_to_string(io::stdin()).map_err(|e| e.to_string())?;
     let mut prints = shares::Prints::default();
-    for line in input.split_inclusive(|&b| b == b'\n') {
-        let order = line.strip_suffix(b"\n").unwrap_or(line);
-        print(&prints.print_with_order(order))?;
+    for line in input.lines() {
+        let typed = bytes(line).ok_or_else(|| format!("{line} is no list of bytes"))?;
+        print(format!("typed {line}\n{}", prints.print(&typed)).as_bytes())?;
     }
     Ok(())
 }

@@ -19,9 +19,9 @@ pub struct Prints {
 }
 
 impl Prints {
-    /// The print for an order as typed, without the final newline that the program ignores.
+    /// The print for all that is typed, of which a final newline is ignored.
     pub fn print(&mut self, typed: &[u8]) -> String {
-        let order: Vec<u8> = typed.iter().map(direction).collect();
+        let order: Vec<u8> = typed.strip_suffix(b"\n").unwrap_or(typed).iter().map(direction).collect();
         match calls::multiplicities(&order) {
             Err(refusal) => format!("refused {}\n", refusal.number),
             Ok(v) if v.places() > LARGEST_BOX => "refused 4\n".to_string(),
@@ -55,6 +55,16 @@ mod tests {
         for typed in [b"444".as_slice(), b"1234", b"4321"] {
             assert!(prints.print(typed).starts_with("box 21 21 21 degree "));
         }
+    }
+
+    #[test]
+    fn one_final_newline_is_ignored() {
+        let mut prints = Prints::default();
+        for typed in [b"".as_slice(), b"132", b"4444", b"111111111"] {
+            assert_eq!(prints.print(&[typed, b"\n"].concat()), prints.print(typed));
+        }
+        assert_eq!(prints.print(b"\n\n"), "refused 2\n");
+        assert_eq!(prints.print(b"11111111\n\n"), "refused 1\n");
     }
 
     #[test]

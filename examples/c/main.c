@@ -2,6 +2,7 @@
 #include "torskavel.h"
 
 #include <inttypes.h>
+#include <stdbool.h>
 #include <stdio.h>
 
 /* The order 1, 3, 2 has the box 13, 13, 13. */
@@ -10,8 +11,8 @@
 
 static uint32_t net[PLACES], defined[PLACES];
 static int32_t work[PLACES];
-static int16_t corrections[TORSKAVEL_ENTRIES];
-static uint16_t uncertainties[TORSKAVEL_ENTRIES];
+static int16_t corrections[TORSKAVEL_MAX_ENTRIES];
+static uint16_t uncertainties[TORSKAVEL_MAX_ENTRIES];
 
 /* Whether the call was refused; then the line ends with the refusal. */
 static bool refused(uint32_t number, size_t place) {
@@ -40,7 +41,7 @@ static struct torskavel_unit inspect(struct torskavel_unit unit) {
 }
 
 static struct torskavel_unit load(struct torskavel_unit unit, const char *path) {
-    static uint8_t file[6 + 4 * TORSKAVEL_ENTRIES + 1]; /* one byte more, so that too long a file is seen */
+    static uint8_t file[TORSKAVEL_MAX_FILE + 1]; /* one byte more, so that too long a file is seen */
     size_t length = 0;
     FILE *in = fopen(path, "rb");
     if (in) {
@@ -49,7 +50,7 @@ static struct torskavel_unit load(struct torskavel_unit unit, const char *path) 
     }
     printf("load %zu bytes: ", length);
     struct torskavel_unit_answer a =
-        torskavel_load(unit, file, length, corrections, TORSKAVEL_ENTRIES, uncertainties, TORSKAVEL_ENTRIES);
+        torskavel_load(unit, file, length, corrections, TORSKAVEL_MAX_ENTRIES, uncertainties, TORSKAVEL_MAX_ENTRIES);
     if (!refused(a.number, a.place)) printf("block %d %d %d\n", a.unit.n1, a.unit.n2, a.unit.n3);
     return a.unit;
 }
@@ -57,7 +58,7 @@ static struct torskavel_unit load(struct torskavel_unit unit, const char *path) 
 static void answer(struct torskavel_unit unit, uint32_t x, uint32_t y, uint32_t z, uint32_t divisor) {
     printf("point (%" PRIu32 ", %" PRIu32 ", %" PRIu32 ")/%" PRIu32 ": ", x, y, z, divisor);
     struct torskavel_point_answer a = torskavel_answer(
-        unit, net, PLACES, corrections, TORSKAVEL_ENTRIES, uncertainties, TORSKAVEL_ENTRIES, x, y, z, divisor);
+        unit, net, PLACES, corrections, TORSKAVEL_MAX_ENTRIES, uncertainties, TORSKAVEL_MAX_ENTRIES, x, y, z, divisor);
     if (refused(a.number, a.place)) return;
     printf("shift %" PRId64 "/%" PRIu64 ", ", a.numerator, a.denominator);
     printf("uncertainty %" PRIu64 "/%" PRIu64 "\n", a.uncertainty, a.denominator);

@@ -5,18 +5,18 @@ Run in the repository, after `cargo build --release --offline` in evaluator/. Th
 by examples/figure itself, which stops where they do not come to the library's answer.
 """
 import re
-import subprocess
 import sys
 from pathlib import Path
 
-ROOT = Path(__file__).resolve().parents[2]
-EVALUATOR = ROOT / "evaluator/target/release/evaluator"
+sys.path.append(str(Path(__file__).resolve().parents[1]))
+from evaluator import ROOT, ask
+
 FIELD = ROOT / "examples/figure/table.field"
+ANSWERS = 4  # of two points by each of two nets
 
 
 def evaluated(multiplicities, sizes, point, divisor):
-    command = [EVALUATOR, "point", *multiplicities, *sizes, *point, divisor, "--file", FIELD]
-    return subprocess.run(list(map(str, command)), capture_output=True, text=True, check=True).stdout.split()[1:]
+    return ask("point", *multiplicities, *sizes, *point, divisor, "--file", FIELD).split()[1:]
 
 
 def main():
@@ -33,6 +33,8 @@ def main():
             if evaluated(multiplicities, sizes, point, divisor) != numbers:
                 sys.exit(f"point {' '.join(point)} over {divisor}: not the evaluator's answer")
             checked += 1
+    if checked != ANSWERS:
+        sys.exit(f"examples/figure/expected has {checked} answers, not {ANSWERS}")
     print(f"figure: {checked} answers are the evaluator's")
 
 

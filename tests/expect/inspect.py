@@ -9,44 +9,19 @@ Run in the repository, after `cargo build --release --offline` in evaluator/:
 The nets are the evaluator's, which knows nothing of the step rule. The answers are document 01's, section "Inspecting":
 checks 3, 4, 14 in this order; 14 carries the lowest index that differs, every other refusal the place 0.
 """
-import functools
-import subprocess
+import math
 import sys
 from pathlib import Path
 
-ROOT = Path(__file__).resolve().parents[2]
-EVALUATOR = ROOT / "evaluator/target/release/evaluator"
+sys.path.append(str(Path(__file__).resolve().parents[1]))
+from evaluator import ROOT, net, widths
+
 CRATE = ROOT / "crates/inspect_check"
 
 ROOM = 2200  # places of each of the program's slices
 LARGEST = 4294967295
 SHAPES = [(1, 1, 1, 1), (2, 1, 1, 1), (1, 1, 1, 2), (2, 2, 2, 1), (1, 2, 1, 2), (3, 1, 2, 1)]
 BLOCK = (1, 3, 4, 5)  # the block half of the program's unit, which an inspection keeps
-
-
-def widths(v):
-    """Wb = m×Eb+1, where m = v1+v2+v3+v4−3 and Eb = vb+v4."""
-    m = sum(v) - 3
-    return [m * (v[b] + v[3]) + 1 for b in range(3)]
-
-
-def places(v):
-    w1, w2, w3 = widths(v)
-    return w1 * w2 * w3
-
-
-@functools.cache
-def net(v):
-    """The evaluator's net of four multiplicities, in index order x + W1×(y + W2×z)."""
-    command = [str(EVALUATOR), "net", *map(str, v)]
-    head, *lines = subprocess.run(command, capture_output=True, text=True, check=True).stdout.splitlines()
-    w1, w2, w3 = widths(v)
-    assert head == f"box {w1} {w2} {w3} degree {sum(v) - 3}"
-    numbers = [0] * places(v)
-    for line in lines:
-        x, y, z, number = map(int, line.split())
-        numbers[x + w1 * (y + w2 * z)] = number
-    return numbers
 
 
 class Cases:
@@ -80,7 +55,7 @@ class Cases:
 def answer(v, numbers, slices):
     if 0 in v or sum(v) > 12:
         return "refused 3 0"
-    if min(slices) < places(v):
+    if min(slices) < math.prod(widths(v)):
         return "refused 4 0"
     for index, (lent, defined) in enumerate(zip(numbers, net(v))):
         if lent != defined:

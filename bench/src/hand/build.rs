@@ -36,7 +36,7 @@ fn build_by(take_up: TakeUp, unit: Unit, order: &[u8], net: &mut [u32], work: &m
     }
     lay_net(take_up, order, net, work);
     let [v1, v2, v3, v4] = v;
-    Ok(Unit { has_net: true, v1, v2, v3, v4, ..unit })
+    Ok(Unit { has_net: 1, v1, v2, v3, v4, ..unit })
 }
 
 /// Each repeat reads one slice and writes the other; the first is chosen so that the last written is `net`.

@@ -29,7 +29,7 @@ impl Shape {
     pub fn of_unit(unit: &Unit) -> Option<Shape> {
         let v = [unit.v1, unit.v2, unit.v3, unit.v4];
         let allowed = !v.contains(&0) && v.iter().map(|&v| u32::from(v)).sum::<u32>() <= LARGEST_SUM;
-        (unit.has_net && allowed).then(|| Shape::of(v))
+        (unit.has_net == 1 && allowed).then(|| Shape::of(v))
     }
 
     pub fn places(&self) -> usize {
@@ -46,5 +46,5 @@ impl Shape {
 pub fn block_sizes(unit: &Unit) -> Option<[usize; 3]> {
     let n = [unit.n1, unit.n2, unit.n3].map(usize::from);
     let allowed = n.iter().all(|n| (1..=LARGEST_SIZE).contains(n)) && n.iter().product::<usize>() <= LARGEST_BLOCK;
-    (unit.has_block && allowed).then_some(n)
+    (unit.has_block == 1 && allowed).then_some(n)
 }

@@ -19,7 +19,8 @@ fn random_unit(random: &mut Random) -> Unit {
     let (v, n) = ([1, 1, 1, 1, 2, 2, 2, 3, 0], [2, 3, 4, 4, 5, 5, 6, 0, 65]);
     let (v1, v2, v3, v4) = (pick(random, &v), pick(random, &v), pick(random, &v), pick(random, &v));
     let (n1, n2, n3) = (pick(random, &n), pick(random, &n), pick(random, &n));
-    Unit { has_net: random.below(20) > 0, v1, v2, v3, v4, has_block: random.below(20) > 0, n1, n2, n3 }
+    let mut flag = || if random.below(20) > 0 { 1 } else { random.below(256) as u8 };
+    Unit { has_net: flag(), v1, v2, v3, v4, has_block: flag(), n1, n2, n3 }
 }
 
 #[test]

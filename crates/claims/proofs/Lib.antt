@@ -1,9 +1,14 @@
+pub mod Bytes
 pub mod Orders
 pub mod Rule
 pub mod Plain
 pub mod Inspector
 pub mod OneDirection
+pub mod Held
 pub mod WindowShares
+pub mod Fraction
 pub mod ConstantBlock
 pub mod Figures
 pub mod Refusals
+pub mod FlatNumbers
+pub mod Unchanged

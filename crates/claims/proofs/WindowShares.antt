@@ -26,27 +26,43 @@ use Rattle.point.specs.Answer.{numberAt}
 use Rattle.point.specs.Blending.{addsUp, allSimplex, localPlace, share, shareSum}
 use Rattle.claims.specs.Nets.{HoldsDefined}
 
-module _ (v : Multiplicities) (p : Positive v) (net : List ℕ) (room : places (width v) ≤ length net) (h : HoldsDefined v net) where
+module _ (v : Multiplicities) (p : Positive v) (net : List ℕ)
+    (room : places (width v) ≤ length net) (h : HoldsDefined v net) where
   -- a number of the slice at a place of the box
-  number-is : (x y z : ℕ) → x < width v a1 → y < width v a2 → z < width v a3 → getD net (index (width v) x y z) 0 ≡ defined v (place (pos x) (pos y) (pos z))
+  number-is : (x y z : ℕ) → x < width v a1 → y < width v a2 → z < width v a3
+      → getD net (index (width v) x y z) 0 ≡ defined v (place (pos x) (pos y) (pos z))
   number-is x y z lx ly lz =
       let i : ℕ = index (width v) x y z in
       let l : i < places (width v) = index-in (width v a1) (width v a2) (width v a3) x y z lx ly lz in
-      sym (getD-take (places (width v)) net i 0 l) ∙ ap (λ (s : List ℕ). getD s i 0) h ∙ netList-at (width v) (defined v) i l ∙ ap (defined v) (placeOf-index (width v) x y z lx ly)
+      sym (getD-take (places (width v)) net i 0 l)
+      ∙ ap (λ (s : List ℕ). getD s i 0) h
+      ∙ netList-at (width v) (defined v) i l
+      ∙ ap (defined v) (placeOf-index (width v) x y z lx ly)
 
   in-width : (b : Axis) (i u : ℕ) → i < extent v b → u ≤ degree v → degree v * i + u < width v b
-  in-width b i u l k = let e : degree v * suc i ≤ degree v * extent v b = mul-le-mul-left (degree v) l in omega arith
+  in-width b i u l k =
+      let e : degree v * suc i ≤ degree v * extent v b = mul-le-mul-left (degree v) l in
+      omega arith
 
-  pub window-shares : (u : Axis → ℕ) → ((b : Axis) → u b ≤ degree v) → shareSum v (numberAt net) u ≡ factorial (degree v)
+  -- the shares of the window add up to m! at a local place
+  pub window-shares : (u : Axis → ℕ) → ((b : Axis) → u b ≤ degree v)
+      → shareSum v (numberAt net) u ≡ factorial (degree v)
   unfolding shareSum share
   window-shares u k =
+      let m = degree v in
       sumBox-cong (extent v a1) (extent v a2) (extent v a3) _ _ (λ i1 i2 i3 l1 l2 l3.
-      number-is (degree v * i1 + u a1) (degree v * i2 + u a2) (degree v * i3 + u a3) (in-width a1 i1 (u a1) l1 (k a1)) (in-width a2 i2 (u a2) l2 (k a2)) (in-width a3 i3 (u a3) l3 (k a3)))
+      number-is (m * i1 + u a1) (m * i2 + u a2) (m * i3 + u a3)
+      (in-width a1 i1 (u a1) l1 (k a1))
+      (in-width a2 i2 (u a2) l2 (k a2))
+      (in-width a3 i3 (u a3) l3 (k a3)))
       ∙ shares-add-up v p (u a1) (u a2) (u a3) (k a1) (k a2) (k a3)
 
   -- so 23 does not apply
   pub adds-up : (X Y Z D : ℕ) → addsUp v (numberAt net) (placing X Y Z D) ≡ true
   unfolding addsUp allSimplex
   adds-up X Y Z D =
+      let q = placing X Y Z D in
       all-from (suc (degree v)) _ (λ x lx. all-from (suc x) _ (λ y ly. all-from (suc y) _ (λ z lz.
-      eq-eqb _ _ (window-shares (localPlace (placing X Y Z D) (x - y) (y - z) z) (local-le (placing X Y Z D) (x - y) (y - z) z (degree v) (omega arith))))))
+      eq-eqb _ _
+      (window-shares (localPlace q (x - y) (y - z) z)
+      (local-le q (x - y) (y - z) z (degree v) (omega arith))))))

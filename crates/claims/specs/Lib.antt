@@ -1,4 +1,5 @@
 pub mod Nets
 pub mod Points
-pub mod Figures
 pub mod Refusals
+pub mod Figures
+pub mod Demands

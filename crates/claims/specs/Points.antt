@@ -1,4 +1,4 @@
--- What demand 3 speaks of at points: document 01, section "What demand 3 speaks of".
+-- What the statement on points cites: document 01, section "What demand 3 speaks of".
 use mathlib.Core.Bool.{false}
 use mathlib.Core.List.{List}
 use mathlib.Core.Path.{_≡_}
@@ -12,14 +12,15 @@ use Rattle.net.specs.Order.{buildChecks}
 use Rattle.inspection.specs.Inspect.{inspectChecks}
 use Rattle.point.specs.Blending.{isGap}
 
--- "A net was built or passed where a build that was not refused wrote it, or an inspection that was not refused read it.": the
--- multiplicities, and the net slice after the build or at the inspection
+-- The multiplicities and the numbers of a net that a build wrote or an inspection read, neither refused:
+-- the net slice after the build, or at the inspection.
 pub data BuiltOrPassed : Multiplicities → List ℕ → Type 0 where
-  built : (order net : List ℕ) (work : ℕ) → buildChecks order (length net) work ≡ Passed → BuiltOrPassed (orderMultiplicities order) (buildNet order net work)
-  passed : (v : Multiplicities) (net : List ℕ) (defined work : ℕ) → inspectChecks v net defined work ≡ Passed → BuiltOrPassed v net
+  built : (order net : List ℕ) (workLength : ℕ) → buildChecks order (length net) workLength ≡ Passed
+      → BuiltOrPassed (orderMultiplicities order) (buildNet order net workLength)
+  passed : (v : Multiplicities) (net : List ℕ) (definedLength workLength : ℕ)
+      → inspectChecks v net definedLength workLength ≡ Passed → BuiltOrPassed v net
 
--- "The block holds one measured correction c throughout where the first n places of its correction slice are all c, and c is not
--- −32768"
+-- the first n corrections are all c, and c is not the mark of an entry that was never measured
 pub record Constant (n : ℕ) (corrections : List ℤ) (c : ℤ) : Type 0 where
   pub measured : isGap c ≡ false
   pub throughout : (i : ℕ) → i < n → getD corrections i (pos 0) ≡ c

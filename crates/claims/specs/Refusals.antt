@@ -1,16 +1,35 @@
--- What demand 1 speaks of: "one of the numbered refusals of document 01".
-use mathlib.Core.Bool.{Bool, _&&_, _||_, true}
+-- What the statements on refusals cite: the numbers of document 01's two lists, and the refusals that calls
+-- meet.
+use mathlib.Core.Bool.{Bool, _&&_, _||_}
+use mathlib.Core.List.{List}
 use mathlib.Core.Path.{_≡_}
 use Prim.Native.Nat.{ℕ}
 use lib.Dec.{leb}
-use Rattle.unit.specs.declared.Checked.{Checked}
-use Rattle.unit.specs.declared.Checked.the-variants.{Passed, Stopped}
+use lib.IntN.{ℤ}
+use Rattle.spline.specs.Multiplicities.{Multiplicities}
+use Rattle.unit.specs.declared.Refusal.{Refusal}
+use Rattle.unit.specs.declared.Unit.{Unit}
+use Rattle.net.specs.Build.{buildAnswer}
+use Rattle.inspection.specs.Inspect.{inspectAnswer}
+use Rattle.field.specs.Load.{loadAnswer}
+use Rattle.placing.specs.Place.{placeAnswer}
+use Rattle.point.specs.Answer.{pointAnswer}
+use Rattle.placing.specs.declared.PlacingAnswer.the-variants as placings
+use Rattle.point.specs.declared.PointAnswer.the-variants as points
+use Rattle.unit.specs.declared.UnitAnswer.the-variants as units
 
--- the numbers of its two lists: 1 to 14, and 21 to 23
+-- 1 to 14, and 21 to 23
 abbrev pub listed : ℕ → Bool
 listed n = leb 1 n && leb n 14 || leb 21 n && leb n 23
 
--- checks that stop, if at all, with one of these
-abbrev pub Numbered : Checked → Type 0
-Numbered Passed = Unit {0}
-Numbered (Stopped r) = listed (r .number) ≡ true
+-- a call, on whatever it was handed, answered the refusal r
+pub data Met (r : Refusal) : Type 0 where
+  by-build : (u : Unit) (order : List ℕ) (netLength workLength : ℕ)
+      → buildAnswer u order netLength workLength ≡ units.Refused r → Met r
+  by-inspection : (u : Unit) (v : Multiplicities) (net : List ℕ) (definedLength workLength : ℕ)
+      → inspectAnswer u v net definedLength workLength ≡ units.Refused r → Met r
+  by-load : (u : Unit) (file : List ℕ) (corrections : List ℤ) (uncertainties : List ℕ)
+      → loadAnswer u file corrections uncertainties ≡ units.Refused r → Met r
+  by-placing : (u : Unit) (x y z D : ℕ) → placeAnswer u x y z D ≡ placings.Refused r → Met r
+  by-point : (u : Unit) (net : List ℕ) (corrections : List ℤ) (uncertainties : List ℕ) (x y z D : ℕ)
+      → pointAnswer u net corrections uncertainties x y z D ≡ points.Refused r → Met r

@@ -6,7 +6,7 @@ use borrow.Author.Tests.{eq-eqb, eqb-true, le-ltb, ltb-false, not-false}
 use lib.Dec.{ltb}
 use lib.ListN.{length}
 use Rattle.sums.proofs.Search.{first-nowhere, nowhere-first}
-use Rattle.unit.proofs.Checks.{at-passed, if-passed, or-false, then-passed}
+use Rattle.unit.proofs.Checks.{at-passed, if-passed, room-passed, then-passed}
 use Rattle.unit.proofs.Limits.{BlockLimits, limits-sizes, sizes-limits}
 use Rattle.unit.specs.declared.Checked.the-variants.{Passed}
 use Rattle.field.specs.File.{entryCount, fileLength, headerLength, size1, size2, size3, uncertainty}
@@ -17,15 +17,16 @@ pub record LayoutAccepted (file : List ℕ) : Type 0 where
   pub sizes : BlockLimits (size1 file) (size2 file) (size3 file)
   pub exact : length file ≡ fileLength (entryCount file)
 
-pub record LoadAccepted (file : List ℕ) (corrections uncertainties : ℕ) : Type 0 where
+pub record LoadAccepted (file : List ℕ) (correctionsLength uncertaintiesLength : ℕ) : Type 0 where
   pub layout : LayoutAccepted file
   pub limited : (i : ℕ) → i < entryCount file → uncertainty file i ≤ 32767
-  pub room1 : entryCount file ≤ corrections
-  pub room2 : entryCount file ≤ uncertainties
+  pub room1 : entryCount file ≤ correctionsLength
+  pub room2 : entryCount file ≤ uncertaintiesLength
 
 -- ---- the layout
 
 module _ (file : List ℕ) where
+  -- a layout that is not refused: the header is there, the sizes are within limits, the length is exact
   pub layout-accepted : layoutChecks file ≡ Passed → LayoutAccepted file
   unfolding layoutChecks
   layout-accepted h =
@@ -38,28 +39,35 @@ module _ (file : List ℕ) where
         exact = eqb-true _ _ (not-false _ (p7 .0));
       }
 
+  -- and back
   pub accepted-layout : LayoutAccepted file → layoutChecks file ≡ Passed
   unfolding layoutChecks
   accepted-layout a = simp (le-ltb _ _ (a .header), limits-sizes _ _ _ (a .sizes), eq-eqb _ _ (a .exact))
 
 -- ---- the load
 
-module _ (file : List ℕ) (corrections uncertainties : ℕ) where
-  pub load-accepted : loadChecks file corrections uncertainties ≡ Passed → LoadAccepted file corrections uncertainties
+module _ (file : List ℕ) (correctionsLength uncertaintiesLength : ℕ) where
+  -- a load that is not refused: its layout is accepted, its uncertainties are limited, both slices have room
+  pub load-accepted : loadChecks file correctionsLength uncertaintiesLength ≡ Passed
+      → LoadAccepted file correctionsLength uncertaintiesLength
   unfolding loadChecks
   load-accepted h =
+      let n = entryCount file in
       let p = then-passed (layoutChecks file) _ h in
-      let q = then-passed (limitCheck (entryCount file) (uncertainty file)) _ (p .1) in
-      let r = or-false _ _ (if-passed 9 _ _ (q .1) .0) in
+      let q = then-passed (limitCheck n (uncertainty file)) _ (p .1) in
+      let r = room-passed n correctionsLength uncertaintiesLength (q .1) in
       record {
         layout = layout-accepted file (p .0);
-        limited = λ i l. ltb-false _ _ (first-nowhere _ (entryCount file) (at-passed 8 _ Passed (q .0) .0) i l);
-        room1 = ltb-false _ _ (r .0);
-        room2 = ltb-false _ _ (r .1);
+        limited = λ i l. ltb-false _ _ (first-nowhere _ n (at-passed 8 _ Passed (q .0) .0) i l);
+        room1 = r .0;
+        room2 = r .1;
       }
 
-  pub accepted-load : LoadAccepted file corrections uncertainties → loadChecks file corrections uncertainties ≡ Passed
+  -- and back
+  pub accepted-load : LoadAccepted file correctionsLength uncertaintiesLength
+      → loadChecks file correctionsLength uncertaintiesLength ≡ Passed
   unfolding loadChecks
   accepted-load a =
-      simp
-      (accepted-layout file (a .layout), nowhere-first (λ i. ltb 32767 (uncertainty file i)) (entryCount file) (λ i l. le-ltb _ _ (a .limited i l)), le-ltb _ _ (a .room1), le-ltb _ _ (a .room2))
+      let n = entryCount file in
+      let none = nowhere-first (λ i. ltb 32767 (uncertainty file i)) n (λ i l. le-ltb _ _ (a .limited i l)) in
+      simp (accepted-layout file (a .layout), none, le-ltb _ _ (a .room1), le-ltb _ _ (a .room2))

@@ -6,7 +6,8 @@ use Prim.Native.Nat.{_*_, _+_, _-_, _<_, _≤_, suc, zero, ℕ}
 use native.Mathlib.Nat.{eq-zero-or-pos, mod-add-div}
 use native.Mathlib.Omega.{arith}
 use lib.IntN.{pos, ℤ}
-use lib.ListN.{List·getD-append, List·getD-eq-default, List·getD-map, drop, getD, length, length-append, length-map}
+use lib.ListN.{List·getD-append, List·getD-eq-default, List·getD-map}
+use lib.ListN.{drop, getD, length, length-append, length-map}
 use lib.Seq.{getD-append-add}
 use Rattle.sums.proofs.Fill.{list-is-tabulate, tabulate-cong}
 use Rattle.sums.specs.Fill.{filled}
@@ -19,7 +20,8 @@ use Rattle.unit.specs.declared.UnitAnswer.the-variants.{Changed}
 use Rattle.field.proofs.Accepted.{accepted-load}
 use Rattle.field.proofs.Twos.{bits-below, signed-bits}
 use Rattle.field.specs.Encoding.{WithinLimits, bits, encoding, littleEndian}
-use Rattle.field.specs.File.{correction, correctionsStart, entry, entryCount, fileLength, signed, size1, size2, size3, uncertaintiesStart, uncertainty, word}
+use Rattle.field.specs.File.{correction, correctionsStart, entry, entryCount, fileLength, signed}
+use Rattle.field.specs.File.{size1, size2, size3, uncertaintiesStart, uncertainty, word}
 use Rattle.field.specs.Load.{loadAnswer, loadChecks, loadCorrections, loadUncertainties}
 
 -- ---- 16-bit numbers as bytes
@@ -38,7 +40,8 @@ word-littleEndian (w ∷ ws) (suc i) =
     let f : 2 * suc i + 1 ≡ suc (suc (2 * i + 1)) = omega arith in
     rw (f, e) (word-littleEndian ws i)
 
-bytes-littleEndian : (ws : List ℕ) → ((i : ℕ) → getD ws i 0 < 65536) → (i : ℕ) → getD (littleEndian ws) i 0 < 256
+bytes-littleEndian : (ws : List ℕ) → ((i : ℕ) → getD ws i 0 < 65536)
+    → (i : ℕ) → getD (littleEndian ws) i 0 < 256
 unfolding littleEndian
 bytes-littleEndian [] h i = omega arith
 bytes-littleEndian (w ∷ ws) h zero = omega arith
@@ -47,20 +50,24 @@ bytes-littleEndian (w ∷ ws) h (suc (suc i)) = bytes-littleEndian ws (λ j. h (
 
 -- ---- the fields of an encoding
 
-module _ (n1 n2 n3 : ℕ) (corrections : List ℤ) (uncertainties : List ℕ) (l : WithinLimits n1 n2 n3 corrections uncertainties) where
+module _ (n1 n2 n3 : ℕ) (corrections : List ℤ) (uncertainties : List ℕ)
+    (l : WithinLimits n1 n2 n3 corrections uncertainties) where
   abbrev n : ℕ
   n = n1 * n2 * n3
 
   abbrev file : List ℕ
   file = encoding n1 n2 n3 corrections uncertainties
 
+  abbrev coded : List ℕ
+  coded = map bits corrections
+
   abbrev entries : List ℕ
-  entries = map bits corrections ++ uncertainties
+  entries = coded ++ uncertainties
 
   limits : BlockLimits n1 n2 n3
   limits = sizes-limits n1 n2 n3 (l .sizes)
 
-  counted : length (map bits corrections) ≡ n
+  counted : length coded ≡ n
   counted = length-map corrections bits ∙ l .count1
 
   size1-is : size1 file ≡ n1
@@ -81,8 +88,8 @@ module _ (n1 n2 n3 : ℕ) (corrections : List ℤ) (uncertainties : List ℕ) (l
   length-is : length file ≡ fileLength n
   unfolding encoding
   length-is =
-      omega
-      (arith, length-littleEndian (n1 ∷ n2 ∷ n3 ∷ entries), length-append (map bits corrections) uncertainties, counted, l .count2)
+      let doubled = length-littleEndian (n1 ∷ n2 ∷ n3 ∷ entries) in
+      omega (arith, doubled, length-append coded uncertainties, counted, l .count2)
 
   entry-is : (i : ℕ) → entry file correctionsStart i ≡ getD entries i 0
   unfolding encoding
@@ -90,39 +97,45 @@ module _ (n1 n2 n3 : ℕ) (corrections : List ℤ) (uncertainties : List ℕ) (l
       let e : 6 + 2 * i ≡ 2 * suc (suc (suc i)) = omega arith in
       ap (word file) e ∙ word-littleEndian (n1 ∷ n2 ∷ n3 ∷ entries) (suc (suc (suc i)))
 
+  coded-is : (i : ℕ) → i < n → getD entries i 0 ≡ bits (getD corrections i (pos 0))
+  unfolding bits
+  coded-is i h =
+      List·getD-append coded uncertainties 0 i (rw counted h) ∙ List·getD-map bits corrections i (pos 0)
+
   correction-is : (i : ℕ) → i < n → correction file i ≡ getD corrections i (pos 0)
-  unfolding correction bits
+  unfolding correction
   correction-is i h =
-      ap signed (entry-is i ∙ List·getD-append (map bits corrections) uncertainties 0 i (rw counted h) ∙ List·getD-map bits corrections i (pos 0))
-      ∙ signed-bits (getD corrections i (pos 0)) (l .range1 i h)
+      ap signed (entry-is i ∙ coded-is i h) ∙ signed-bits (getD corrections i (pos 0)) (l .range1 i h)
 
   uncertainty-is : (i : ℕ) → uncertainty file i ≡ getD uncertainties i 0
   unfolding uncertainty
   uncertainty-is i =
-      let e : uncertaintiesStart (length (map bits corrections)) + 2 * i ≡ correctionsStart + 2 * (length (map bits corrections) + i) = omega arith in
+      let e : uncertaintiesStart (length coded) + 2 * i ≡ correctionsStart + 2 * (length coded + i)
+      = omega arith in
       ap (λ (k : ℕ). entry file (uncertaintiesStart k) i) (count-is ∙ sym counted)
       ∙ ap (word file) e
-      ∙ entry-is (length (map bits corrections) + i)
-      ∙ getD-append-add (map bits corrections) uncertainties i 0
+      ∙ entry-is (length coded + i)
+      ∙ getD-append-add coded uncertainties i 0
 
   -- it is a list of bytes
 
   corrections-below : (i : ℕ) → i < n → getD entries i 0 < 65536
-  unfolding bits
-  corrections-below i h =
-      rw (List·getD-append (map bits corrections) uncertainties 0 i (rw counted h) ∙ List·getD-map bits corrections i (pos 0))
-      (bits-below (getD corrections i (pos 0)) (l .range1 i h))
+  corrections-below i h = rw (coded-is i h) (bits-below (getD corrections i (pos 0)) (l .range1 i h))
 
   uncertainties-below : (i : ℕ) → getD uncertainties i 0 < 65536
-  uncertainties-below i = ⊎-elim
-      (λ (h : n - i ≡ 0). rw (List·getD-eq-default uncertainties 0 {n = i} (omega (arith, l .count2))) (omega arith))
+  uncertainties-below i =
+      ⊎-elim
+      (λ (h : n - i ≡ 0).
+      rw (List·getD-eq-default uncertainties 0 {n = i} (omega (arith, l .count2))) (omega arith))
       (λ (h : 0 < n - i). let k = l .range2 i (omega arith) in omega arith)
       (eq-zero-or-pos (n - i))
 
   entries-below : (i : ℕ) → getD entries i 0 < 65536
-  entries-below i = ⊎-elim
-      (λ (h : n - i ≡ 0). let e : i ≡ length (map bits corrections) + (i - n) = omega (arith, counted) in
-      rw (ap (λ (k : ℕ). getD entries k 0) e ∙ getD-append-add (map bits corrections) uncertainties (i - n) 0) (uncertainties-below (i - n)))
+  entries-below i =
+      ⊎-elim
+      (λ (h : n - i ≡ 0). let e : i ≡ length coded + (i - n) = omega (arith, counted) in
+      rw (ap (λ (k : ℕ). getD entries k 0) e ∙ getD-append-add coded uncertainties (i - n) 0)
+      (uncertainties-below (i - n)))
       (λ (h : 0 < n - i). corrections-below i (omega arith))
       (eq-zero-or-pos (n - i))
 
@@ -143,7 +156,11 @@ module _ (n1 n2 n3 : ℕ) (corrections : List ℤ) (uncertainties : List ℕ) (l
     passed =
         accepted-load file (length c) (length u)
         (record {
-          layout = record { header = omega (arith, length-is); sizes = rw (size1-is, size2-is, size3-is) limits; exact = length-is ∙ ap fileLength (sym count-is) };
+          layout = record {
+            header = omega (arith, length-is);
+            sizes = rw (size1-is, size2-is, size3-is) limits;
+            exact = length-is ∙ ap fileLength (sym count-is);
+          };
           limited = λ i h. rw (uncertainty-is i) (l .range2 i (rw count-is at h));
           room1 = rw count-is room1;
           room2 = rw count-is room2;
@@ -165,8 +182,12 @@ module _ (n1 n2 n3 : ℕ) (corrections : List ℤ) (uncertainties : List ℕ) (l
     written2 =
         simp (passed, count-is)
         (ap (λ (k : List ℕ). k ++ drop n u)
-        (tabulate-cong _ _ n (λ i _. uncertainty-is i) ∙ sym (list-is-tabulate uncertainties n 0 (l .count2))))
+        (tabulate-cong _ _ n (λ i _. uncertainty-is i)
+        ∙ sym (list-is-tabulate uncertainties n 0 (l .count2))))
 
     -- the round trip, for any unit; past the n entries the slices are as found
-    pub load-encoding : (unit : Unit) → (loadAnswer unit file c u ≡ Changed (withBlock unit n1 n2 n3)) × (loadCorrections file c u ≡ corrections ++ drop n c) × (loadUncertainties file c u ≡ uncertainties ++ drop n u)
+    pub load-encoding : (unit : Unit)
+        → (loadAnswer unit file c u ≡ Changed (withBlock unit n1 n2 n3))
+        × (loadCorrections file c u ≡ corrections ++ drop n c)
+        × (loadUncertainties file c u ≡ uncertainties ++ drop n u)
     load-encoding unit = (answer unit, written1, written2)

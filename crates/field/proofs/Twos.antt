@@ -8,15 +8,17 @@ use lib.Signed.{mag}
 use Rattle.field.specs.Encoding.{bits}
 use Rattle.field.specs.File.{signed}
 
--- the lower half stands for itself, the upper half for negative numbers
+-- the lower half stands for itself
 pub signed-low : (w : ℕ) → w < 32768 → signed w ≡ pos w
 unfolding signed
 signed-low w h = simp (lt-ltb w 32768 h)
 
+-- the upper half for negative numbers
 pub signed-high : (w : ℕ) → 32768 ≤ w → signed w ≡ pos w -ℤ pos 65536
 unfolding signed
 signed-high w h = simp (le-ltb w 32768 h)
 
+-- 65536 less than a number below it
 pub less-65536 : (w : ℕ) → w < 65536 → pos w -ℤ pos 65536 ≡ negsuc (65536 - suc w)
 less-65536 w h = simp (lt-ltb w 65536 h)
 
@@ -28,6 +30,7 @@ signed-bits (negsuc k) h =
     let e : 65536 - suc (65536 - suc k) ≡ k = omega arith in
     signed-high (65536 - suc k) (omega arith) ∙ less-65536 (65536 - suc k) (omega arith) ∙ ap negsuc e
 
+-- the bits are 16
 pub bits-below : (z : ℤ) → mag z < 32768 → bits z < 65536
 unfolding bits
 bits-below (pos k) h = omega arith

@@ -1,5 +1,5 @@
 -- What a load answers and leaves in its slices: document 01, section "Field file and block".
-use mathlib.Core.Bool.{_||_, not}
+use mathlib.Core.Bool.{not}
 use mathlib.Core.List.{List}
 use Prim.Native.Nat.{ℕ}
 use lib.Dec.{eqb, ltb}
@@ -7,14 +7,15 @@ use lib.IntN.{ℤ}
 use lib.ListN.{length}
 use Rattle.sums.specs.Fill.{filled}
 use Rattle.sums.specs.Search.{first}
-use Rattle.unit.specs.Checks.{andThen, passedOr, refuseAt, refuseIf}
+use Rattle.unit.specs.Checks.{andThen, blockRoomCheck, passedOr, refuseAt, refuseIf}
 use Rattle.unit.specs.Unit.{sizesAllowed, withBlock}
 use Rattle.unit.specs.declared.Checked.{Checked}
 use Rattle.unit.specs.declared.Checked.the-variants.{Passed}
 use Rattle.unit.specs.declared.Unit.{Unit}
 use Rattle.unit.specs.declared.UnitAnswer.{UnitAnswer}
 use Rattle.unit.specs.declared.UnitAnswer.the-variants.{Changed, Refused}
-use Rattle.field.specs.File.{correction, entryCount, fileLength, headerLength, size1, size2, size3, uncertainty}
+use Rattle.field.specs.File.{correction, entryCount, fileLength, headerLength, uncertainty}
+use Rattle.field.specs.File.{size1, size2, size3}
 
 -- "5 file under 6 bytes", "6 a size or the product out of limits", "7 length is not 6+4×n"
 unfoldable pub layoutChecks : List ℕ → Checked
@@ -27,16 +28,12 @@ layoutChecks file =
 abbrev pub limitCheck : ℕ → (ℕ → ℕ) → Checked
 limitCheck n uncertaintyOf = refuseAt 8 (first n (λ i. ltb 32767 (uncertaintyOf i))) Passed
 
--- "9 a block slice shorter than n", by the lengths of the two slices
-abbrev pub roomCheck : ℕ → ℕ → ℕ → Checked
-roomCheck n corrections uncertainties = refuseIf 9 (ltb corrections n || ltb uncertainties n) Passed
-
--- "Checks: 5, 6, 7, 8, 9."
+-- the checks 5 to 9 in this order, for slices of these lengths
 unfoldable pub loadChecks : List ℕ → ℕ → ℕ → Checked
-loadChecks file corrections uncertainties =
+loadChecks file correctionsLength uncertaintiesLength =
     andThen (layoutChecks file)
     (andThen (limitCheck (entryCount file) (uncertainty file))
-    (roomCheck (entryCount file) corrections uncertainties))
+    (blockRoomCheck (entryCount file) correctionsLength uncertaintiesLength))
 
 -- "A load writes .. the sizes to the unit"
 unfoldable pub loadAnswer : Unit → List ℕ → List ℤ → List ℕ → UnitAnswer

@@ -5,10 +5,9 @@ ghost use Prim.Native.Nat.{_+_, _*_, _≤_, _<_};
 ghost use lib.ListN.{length};
 ghost use Rattle.sums.specs.Fill.{filled};
 ghost use Rattle.field.specs.File.{word, signed, size1, size2, size3, headerLength, entry};
-ghost use Rattle.unit.specs.Checks.{andThen};
-ghost use Rattle.field.specs.Load.{layoutChecks, limitCheck, roomCheck, loadChecks, loadAnswer, loadCorrections, loadUncertainties};
+ghost use Rattle.field.specs.Load.{layoutChecks, limitCheck, loadChecks};
+ghost use Rattle.field.specs.Load.{loadAnswer, loadCorrections, loadUncertainties};
 use unit::Checked;
-use unit::Refusal;
 use unit::Unit;
 use unit::UnitAnswer;
 
@@ -28,7 +27,8 @@ impl Sizes {
     // The sizes that a file starts with.
     fn read(file: &[u8]) -> Self
         requires { ⌜ headerLength ≤ length (now file) ⌝ }
-        ensures { λ r. ⌜ (r .n1 ≡ size1 (now (file .entry))) × (r .n2 ≡ size2 (now (file .entry))) × (r .n3 ≡ size3 (now (file .entry))) ⌝ }
+        ensures { λ r. ⌜ (r .n1 ≡ size1 (now (file .entry))) × (r .n2 ≡ size2 (now (file .entry)))
+            × (r .n3 ≡ size3 (now (file .entry))) ⌝ }
     {
         Sizes {
             n1: word_at(file, 0),
@@ -66,38 +66,19 @@ fn to_signed(w: u16) -> i16
     }
 }
 
-// Checks and then further ones.
-fn and_then(first: Checked, next: Checked) -> Checked
-    ensures { λ r. ⌜ r ≡ andThen first next ⌝ }
-{
-    match first {
-        Checked::Passed => next,
-        Checked::Stopped(refusal) => Checked::Stopped(refusal),
-    }
-}
-
 // Checks 5, 6, 7.
 fn check_layout(file: &[u8]) -> Checked
     ensures { λ r. ⌜ r ≡ layoutChecks (now (file .entry)) ⌝ }
 {
     if file.len() < HEADER {
-        return Checked::Stopped(Refusal {
-            number: 5,
-            place: 0,
-        });
+        return Checked::stop(5, 0);
     }
     let sizes = Sizes::read(file);
     if !unit::sizes_allowed(sizes.n1, sizes.n2, sizes.n3) {
-        return Checked::Stopped(Refusal {
-            number: 6,
-            place: 0,
-        });
+        return Checked::stop(6, 0);
     }
     if file.len() != HEADER + 4 * sizes.entries() {
-        return Checked::Stopped(Refusal {
-            number: 7,
-            place: 0,
-        });
+        return Checked::stop(7, 0);
     }
     Checked::Passed
 }
@@ -109,35 +90,13 @@ fn check_limit(file: &[u8], start: usize, n: usize) -> Checked
 {
     for i in 0..n {
         if UNCERTAINTY < word_at(file, start + 2 * i) {
-            return Checked::Stopped(Refusal {
-                number: 8,
-                place: i,
-            });
+            return Checked::stop(8, i);
         }
     }
     Checked::Passed
 }
 
-// Check 9, of slices of these lengths.
-fn check_room(n: usize, corrections: usize, uncertainties: usize) -> Checked
-    ensures { λ r. ⌜ r ≡ roomCheck n corrections uncertainties ⌝ }
-{
-    if corrections < n {
-        return Checked::Stopped(Refusal {
-            number: 9,
-            place: 0,
-        });
-    }
-    if uncertainties < n {
-        return Checked::Stopped(Refusal {
-            number: 9,
-            place: 0,
-        });
-    }
-    Checked::Passed
-}
-
-// All checks of a load.
+// All checks of a load, by the lengths of the two slices.
 fn check_load(file: &[u8], corrections: usize, uncertainties: usize) -> Checked
     ensures { λ r. ⌜ r ≡ loadChecks (now (file .entry)) corrections uncertainties ⌝ }
 {
@@ -145,15 +104,17 @@ fn check_load(file: &[u8], corrections: usize, uncertainties: usize) -> Checked
         return Checked::Stopped(refusal);
     }
     let n = Sizes::read(file).entries();
-    let limit = check_limit(file, HEADER + 2 * n, n);
-    let room = check_room(n, corrections, uncertainties);
-    and_then(limit, room)
+    if let Checked::Stopped(refusal) = check_limit(file, HEADER + 2 * n, n) {
+        return Checked::Stopped(refusal);
+    }
+    unit::check_block_room(n, corrections, uncertainties)
 }
 
 // Writes the n corrections that start at a byte of the file.
 fn read_corrections(file: &[u8], start: usize, n: usize, corrections: &mut [i16])
     requires { ⌜ (start + 2 * n ≤ length (now file)) × (n ≤ length (now corrections)) ⌝ }
-    ensures { λ _. ⌜ now (corrections .exit) ≡ filled (λ i. signed (entry (now (file .entry)) start i)) n (now (corrections .entry)) ⌝ }
+    ensures { λ _. ⌜ now (corrections .exit)
+        ≡ filled (λ i. signed (entry (now (file .entry)) start i)) n (now (corrections .entry)) ⌝ }
 {
     for i in 0..n {
         corrections[i] = to_signed(word_at(file, start + 2 * i));
@@ -163,7 +124,8 @@ fn read_corrections(file: &[u8], start: usize, n: usize, corrections: &mut [i16]
 // Writes the n uncertainties that start at a byte of the file.
 fn read_uncertainties(file: &[u8], start: usize, n: usize, uncertainties: &mut [u16])
     requires { ⌜ (start + 2 * n ≤ length (now file)) × (n ≤ length (now uncertainties)) ⌝ }
-    ensures { λ _. ⌜ now (uncertainties .exit) ≡ filled (entry (now (file .entry)) start) n (now (uncertainties .entry)) ⌝ }
+    ensures { λ _. ⌜ now (uncertainties .exit)
+        ≡ filled (entry (now (file .entry)) start) n (now (uncertainties .entry)) ⌝ }
 {
     for i in 0..n {
         uncertainties[i] = word_at(file, start + 2 * i);
@@ -177,9 +139,12 @@ pub fn load(
     corrections: &mut [i16],
     uncertainties: &mut [u16],
 ) -> UnitAnswer
-    ensures answer { λ r. ⌜ r ≡ loadAnswer unit (now (file .entry)) (now (corrections .entry)) (now (uncertainties .entry)) ⌝ }
-    ensures corrections { λ _. ⌜ now (corrections .exit) ≡ loadCorrections (now (file .entry)) (now (corrections .entry)) (now (uncertainties .entry)) ⌝ }
-    ensures uncertainties { λ _. ⌜ now (uncertainties .exit) ≡ loadUncertainties (now (file .entry)) (now (corrections .entry)) (now (uncertainties .entry)) ⌝ }
+    ensures answer { λ r. ⌜ r
+        ≡ loadAnswer unit (now (file .entry)) (now (corrections .entry)) (now (uncertainties .entry)) ⌝ }
+    ensures corrections { λ _. ⌜ now (corrections .exit)
+        ≡ loadCorrections (now (file .entry)) (now (corrections .entry)) (now (uncertainties .entry)) ⌝ }
+    ensures uncertainties { λ _. ⌜ now (uncertainties .exit)
+        ≡ loadUncertainties (now (file .entry)) (now (corrections .entry)) (now (uncertainties .entry)) ⌝ }
 {
     if let Checked::Stopped(refusal) = check_load(file, corrections.len(), uncertainties.len()) {
         return UnitAnswer::Refused(refusal);

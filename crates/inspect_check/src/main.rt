@@ -105,7 +105,8 @@ fn inspect(
     number.next
 }
 
-// Does what the line at a position says, and answers where to go on. Any other byte, as a newline, is passed over.
+// Does what the line at a position says, and answers where to go on. Any other byte, as a newline, is passed
+// over.
 fn line(text: &[u8], at: usize, net: &mut [u32], defined: &mut [u32], work: &mut [i32]) -> usize {
     if at >= text.len() {
         return at;

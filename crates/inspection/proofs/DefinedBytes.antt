@@ -17,8 +17,12 @@ use Rattle.spline.specs.Build.{built, direction, orderNet, simple}
 use Rattle.spline.specs.Defined.{defined, definedOrder, repeats}
 use Rattle.spline.specs.Multiplicities.{Multiplicities, multiplicitiesOf}
 use Rattle.spline.specs.Place.{Axis, Direction, Net, a1, a2, a3, along, diagonal}
-use Rattle.net.specs.Order.{GoodOrder, badByte, orderNumber, orderPlaces, orderWidth}
-use Rattle.inspection.specs.Inspect.{definedByte, definedNumber}
+use Rattle.net.specs.Inner.GoodOrder.{GoodOrder}
+use Rattle.net.specs.Order.{badByte, orderNumber, orderPlaces, orderWidth}
+use Rattle.inspection.specs.Inner.Lists.{definedByte}
+use Rattle.inspection.specs.Inspect.{definedNumber}
+
+-- ---- runs of a direction
 
 module _ (d : Direction) (ds : List Direction) (z : Direction) where
   in-run : (n i : ℕ) → i < n → getD (repeats n d ds) i z ≡ d
@@ -38,7 +42,11 @@ length-repeats (suc n) d ds = omega (arith, length-repeats n d ds)
 map-tabulate : (f : ℕ → ℕ) (n : ℕ) → map direction (tabulate f n) ≡ tabulate (λ i. direction (f i)) n
 unfolding tabulate
 map-tabulate f zero = refl
-map-tabulate f (suc n) = map-append direction (tabulate f n) (f n ∷ []) ∙ ap (λ (ds : List Direction). ds ++ (direction (f n) ∷ [])) (map-tabulate f n)
+map-tabulate f (suc n) =
+    map-append direction (tabulate f n) (f n ∷ [])
+    ∙ ap (λ (ds : List Direction). ds ++ (direction (f n) ∷ [])) (map-tabulate f n)
+
+-- ---- the defined order's directions are those of its bytes
 
 -- how many bytes it has
 abbrev pub repeatCount : Multiplicities → ℕ
@@ -66,7 +74,14 @@ module _ (v : Multiplicities) (p : Positive v) where
   length-defined : length (definedOrder v) ≡ repeatCount v
   unfolding definedOrder
   length-defined =
-      omega (arith, length-repeats a (along a1) threes, length-repeats b (along a3) twos, length-repeats e (along a2) fours, length-repeats (v .v4 - 1) diagonal [], p)
+      omega (
+        arith,
+        length-repeats a (along a1) threes,
+        length-repeats b (along a3) twos,
+        length-repeats e (along a2) fours,
+        length-repeats (v .v4 - 1) diagonal [],
+        p,
+      )
 
   past1 : (i : ℕ) → a ≤ i → getD (definedOrder v) i diagonal ≡ getD threes (i - a) diagonal
   unfolding definedOrder
@@ -75,12 +90,16 @@ module _ (v : Multiplicities) (p : Positive v) where
   past2 : (i : ℕ) → a + b ≤ i → getD (definedOrder v) i diagonal ≡ getD twos (i - (a + b)) diagonal
   past2 i h =
       let k : i - a - b ≡ i - (a + b) = omega arith in
-      past1 i (omega arith) ∙ past-run (along a3) twos diagonal b (i - a) (omega arith) ∙ ap (λ (n : ℕ). getD twos n diagonal) k
+      past1 i (omega arith)
+      ∙ past-run (along a3) twos diagonal b (i - a) (omega arith)
+      ∙ ap (λ (n : ℕ). getD twos n diagonal) k
 
   past3 : (i : ℕ) → a + b + e ≤ i → getD (definedOrder v) i diagonal ≡ getD fours (i - (a + b + e)) diagonal
   past3 i h =
       let k : i - (a + b) - e ≡ i - (a + b + e) = omega arith in
-      past2 i (omega arith) ∙ past-run (along a2) fours diagonal e (i - (a + b)) (omega arith) ∙ ap (λ (n : ℕ). getD fours n diagonal) k
+      past2 i (omega arith)
+      ∙ past-run (along a2) fours diagonal e (i - (a + b)) (omega arith)
+      ∙ ap (λ (n : ℕ). getD fours n diagonal) k
 
   ones : (i : ℕ) → i < a → direction 1 ≡ getD (definedOrder v) i diagonal
   unfolding definedOrder
@@ -97,35 +116,50 @@ module _ (v : Multiplicities) (p : Positive v) where
       (λ m. sym (past2 i k ∙ in-run (along a2) fours diagonal e (i - (a + b)) (omega arith)))
       (λ m. sym (past3 i m ∙ in-run diagonal [] diagonal (v .v4 - 1) (i - (a + b + e)) (omega (arith, p))))))
 
-pub defined-bytes : (v : Multiplicities) → Positive v → map direction (tabulate (definedByte v) (repeatCount v)) ≡ definedOrder v
+defined-bytes : (v : Multiplicities) → Positive v
+    → map direction (tabulate (definedByte v) (repeatCount v)) ≡ definedOrder v
 defined-bytes v p =
-    map-tabulate (definedByte v) (repeatCount v)
-    ∙ sym (list-is-tabulate (definedOrder v) (repeatCount v) diagonal (length-defined v p)
-    ∙ tabulate-cong (λ i. getD (definedOrder v) i diagonal) (λ i. direction (definedByte v i)) (repeatCount v) (λ i l. sym (byte-is v p i l)))
+    let n = repeatCount v in
+    map-tabulate (definedByte v) n
+    ∙ sym (list-is-tabulate (definedOrder v) n diagonal (length-defined v p)
+    ∙ tabulate-cong (λ i. getD (definedOrder v) i diagonal) (λ i. direction (definedByte v i)) n
+    (λ i l. sym (byte-is v p i l)))
 
 -- ---- the order that the code makes of these bytes
+
 good-byte-is : (v : Multiplicities) (i : ℕ) → badByte (definedByte v i) ≡ false
 unfolding definedByte
 good-byte-is v i =
-    by-ltb (λ (n : ℕ). badByte n ≡ false) i (v .v1 - 1) 1 _ (λ h. refl)
-    (λ h. by-ltb (λ (n : ℕ). badByte n ≡ false) i (v .v1 - 1 + (v .v3 - 1)) 3 _ (λ k. refl)
-    (λ k. by-ltb (λ (n : ℕ). badByte n ≡ false) i (v .v1 - 1 + (v .v3 - 1) + (v .v2 - 1)) 2 4 (λ m. refl) (λ m. refl)))
+    by-ltb (λ (n : ℕ). badByte n ≡ false) i _ 1 _ (λ h. refl)
+    (λ h. by-ltb (λ (n : ℕ). badByte n ≡ false) i _ 3 _ (λ k. refl)
+    (λ k. by-ltb (λ (n : ℕ). badByte n ≡ false) i _ 2 4 (λ m. refl) (λ m. refl)))
 
-module _ (v : Multiplicities) (p : Positive v) (few : repeatCount v ≤ 8) (bytes : List ℕ) (is : bytes ≡ tabulate (definedByte v) 8) where
+module _ (v : Multiplicities) (p : Positive v) (few : repeatCount v ≤ 8) (bytes : List ℕ)
+    (is : bytes ≡ tabulate (definedByte v) 8) where
+  -- the bytes that count
   abbrev pub order : List ℕ
   order = take (repeatCount v) bytes
 
   order-is : order ≡ tabulate (definedByte v) (repeatCount v)
-  order-is = ap (λ (l : List ℕ). take (repeatCount v) l) is ∙ take-tabulate (definedByte v) (repeatCount v) 8 few
+  order-is =
+      ap (λ (l : List ℕ). take (repeatCount v) l) is
+      ∙ take-tabulate (definedByte v) (repeatCount v) 8 few
 
+  -- it has as many bytes as the net has repeats
   pub order-length : length order ≡ repeatCount v
   order-length = ap length order-is ∙ length-tabulate (definedByte v) (repeatCount v)
 
+  order-at : (i : ℕ) → i < length order → getD order i 0 ≡ definedByte v i
+  order-at i l =
+      ap (λ (o : List ℕ). getD o i 0) order-is
+      ∙ tabulate-at (definedByte v) (repeatCount v) i 0 (omega (arith, order-length))
+
+  -- it is short and has good bytes
   pub order-good : GoodOrder order
   order-good = record {
     short = omega (arith, order-length);
     good = nowhere-first (λ i. badByte (getD order i 0)) (length order) (λ i l.
-        ap badByte (ap (λ (o : List ℕ). getD o i 0) order-is ∙ tabulate-at (definedByte v) (repeatCount v) i 0 (omega (arith, order-length))) ∙ good-byte-is v i);
+        ap badByte (order-at i l) ∙ good-byte-is v i);
   }
 
   order-directions : map direction order ≡ definedOrder v
@@ -138,9 +172,12 @@ module _ (v : Multiplicities) (p : Positive v) (few : repeatCount v ≤ 8) (byte
   order-width : orderWidth order ≡ width v
   order-width = ap width (ap multiplicitiesOf order-directions ∙ order-of-defined v p)
 
+  -- its box has the places of the net's
   pub order-places : orderPlaces order ≡ places (width v)
   order-places = ap places order-width
 
-  pub order-filled : (n₀ : List ℕ) → filled (orderNumber order) (orderPlaces order) n₀ ≡ filled (definedNumber v) (places (width v)) n₀
+  -- what it builds is the defined net
+  pub order-filled : (n₀ : List ℕ)
+      → filled (orderNumber order) (orderPlaces order) n₀ ≡ filled (definedNumber v) (places (width v)) n₀
   order-filled n₀ =
       ap₂ (λ (C : Net) (W : Axis → ℕ). filled (λ i. C (placeOf W i)) (places W) n₀) order-net order-width

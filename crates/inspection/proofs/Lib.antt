@@ -1,2 +1,1 @@
 pub mod DefinedBytes
-pub mod Limits

@@ -1,7 +1,7 @@
 -- What an inspection answers: document 01, section "Inspecting".
-use mathlib.Core.Bool.{Bool, _||_, cond, not}
+use mathlib.Core.Bool.{Bool, _||_, not}
 use mathlib.Core.List.{List}
-use Prim.Native.Nat.{_+_, _-_, ℕ}
+use Prim.Native.Nat.{ℕ}
 use lib.Dec.{eqb, ltb}
 use lib.ListN.{getD, length}
 use Rattle.sums.specs.Search.{first}
@@ -24,22 +24,18 @@ definedNumber v i = defined v (placeOf (width v) i)
 abbrev pub differsFrom : (ℕ → ℕ) → List ℕ → ℕ → Bool
 differsFrom f net i = not (eqb (getD net i 0) (f i))
 
--- the same of two lists
-abbrev pub differs : List ℕ → List ℕ → ℕ → Bool
-differs net defined = differsFrom (λ i. getD defined i 0) net
+-- one of three slices has less than n elements
+abbrev pub shorter : ℕ → ℕ → ℕ → ℕ → Bool
+shorter netLength definedLength workLength n = ltb netLength n || ltb definedLength n || ltb workLength n
 
 -- "Checks: 3, 4, 14", for work slices of these lengths; 14 carries "the lowest index that differs"
 unfoldable pub inspectChecks : Multiplicities → List ℕ → ℕ → ℕ → Checked
-inspectChecks v net defined work =
+inspectChecks v net definedLength workLength =
     refuseIf 3 (not (allowed v))
-    (refuseIf 4 (ltb (length net) (places (width v)) || ltb defined (places (width v)) || ltb work (places (width v)))
+    (refuseIf 4 (shorter (length net) definedLength workLength (places (width v)))
     (refuseAt 14 (first (places (width v)) (differsFrom (definedNumber v) net)) Passed))
 
 -- "Where they agree, the unit has that net"
 unfoldable pub inspectAnswer : Unit → Multiplicities → List ℕ → ℕ → ℕ → UnitAnswer
-inspectAnswer u v net defined work = passedOr (inspectChecks v net defined work) (Changed (withNet u v)) Refused
-
--- the byte at a position of the order that defines a net, and 4 past its end
-unfoldable pub definedByte : Multiplicities → ℕ → ℕ
-definedByte v i =
-    cond (ltb i (v .v1 - 1)) 1 (cond (ltb i (v .v1 - 1 + (v .v3 - 1))) 3 (cond (ltb i (v .v1 - 1 + (v .v3 - 1) + (v .v2 - 1))) 2 4))
+inspectAnswer u v net definedLength workLength =
+    passedOr (inspectChecks v net definedLength workLength) (Changed (withNet u v)) Refused

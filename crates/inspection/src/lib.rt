@@ -1,26 +1,26 @@
-// Inspecting a net that arrived from elsewhere: it is compared with the defined one, which is built beside it.
+// Inspecting a net that arrived from elsewhere: it is compared with the defined one, built beside it.
 ghost use mathlib.Core.Path.{_≡_};
-ghost use mathlib.Core.Bool.{_||_};
 ghost use Prim.Native.Nat.{_≤_};
-ghost use lib.Dec.{ltb};
 ghost use lib.ListN.{length};
 ghost use Rattle.sums.specs.Fill.{tabulate, filled};
 ghost use Rattle.sums.specs.Search.{first};
 ghost use Rattle.spline.specs.Multiplicities.{multiplicities};
 ghost use Rattle.spline.specs.Box.{places, width};
 ghost use Rattle.unit.specs.Checks.{refuseIf, refuseAt};
-ghost use Rattle.shape.specs.Shape.{counted, Limited, Boxed, widths};
-ghost use Rattle.inspection.specs.Inspect.{definedByte, definedNumber, differs, inspectChecks, inspectAnswer};
+ghost use Rattle.spline.specs.Inner.Limits.{Limits};
+ghost use Rattle.shape.specs.Shape.{counted, widths};
+ghost use Rattle.shape.specs.Inner.Boxes.{Boxed};
+ghost use Rattle.inspection.specs.Inspect.{definedNumber, shorter, inspectChecks, inspectAnswer};
+ghost use Rattle.inspection.specs.Inner.Lists.{definedByte, differs};
 use shape::Counts;
 use shape::Shape;
 use unit::Checked;
-use unit::Refusal;
 use unit::Unit;
 use unit::UnitAnswer;
 
 // The byte at a position of the order that defines a net: 1s, 3s, 2s, 4s.
 fn byte_at(c: Counts, i: usize) -> u8
-    requires { ⌜ Limited c 12 ⌝ }
+    requires { ⌜ Limits (counted c) 12 ⌝ }
     ensures { λ r. ⌜ r ≡ definedByte (counted c) i ⌝ }
 {
     let ones = c.v1 as usize - 1;
@@ -40,7 +40,7 @@ fn byte_at(c: Counts, i: usize) -> u8
 
 // The order that defines a net, followed by 4s.
 fn defined_order(c: Counts) -> [u8; 8]
-    requires { ⌜ Limited c 12 ⌝ }
+    requires { ⌜ Limits (counted c) 12 ⌝ }
     ensures { λ r. ⌜ r ≡ tabulate (definedByte (counted c)) 8 ⌝ }
 {
     let mut order = [4u8; 8];
@@ -54,8 +54,11 @@ fn defined_order(c: Counts) -> [u8; 8]
 
 // Writes the defined net.
 fn lay_defined(c: Counts, defined: &mut [u32], work: &mut [i32])
-    requires { ⌜ Limited c 12 × (places (width (counted c)) ≤ length (now defined)) × (places (width (counted c)) ≤ length (now work)) ⌝ }
-    ensures { λ _. ⌜ now (defined .exit) ≡ filled (definedNumber (counted c)) (places (width (counted c))) (now (defined .entry)) ⌝ }
+    requires { ⌜ Limits (counted c) 12 ⌝ }
+    requires { ⌜ (places (width (counted c)) ≤ length (now defined))
+        × (places (width (counted c)) ≤ length (now work)) ⌝ }
+    ensures { λ _. ⌜ now (defined .exit)
+        ≡ filled (definedNumber (counted c)) (places (width (counted c))) (now (defined .entry)) ⌝ }
     ensures { λ _. ⌜ length (now (work .exit)) ≡ length (now (work .entry)) ⌝ }
 {
     let order = defined_order(c);
@@ -65,8 +68,11 @@ fn lay_defined(c: Counts, defined: &mut [u32], work: &mut [i32])
 
 // Check 14: the lowest index of the box at which two lists differ.
 fn compare(net: &[u32], defined: &[u32], s: Shape) -> Checked
-    requires { ⌜ Boxed s × (places (widths s) ≤ length (now net)) × (places (widths s) ≤ length (now defined)) ⌝ }
-    ensures { λ r. ⌜ r ≡ refuseAt 14 (first (places (widths s)) (differs (now (net .entry)) (now (defined .entry)))) Checked.Passed ⌝ }
+    requires { ⌜ Boxed s × (places (widths s) ≤ length (now net))
+        × (places (widths s) ≤ length (now defined)) ⌝ }
+    ensures { λ r. ⌜ r
+        ≡ refuseAt 14 (first (places (widths s)) (differs (now (net .entry)) (now (defined .entry))))
+        Checked.Passed ⌝ }
 {
     let w1 = s.w1;
     let w2 = s.w2;
@@ -77,10 +83,7 @@ fn compare(net: &[u32], defined: &[u32], s: Shape) -> Checked
         for y in 0..w2 {
             for x in 0..w1 {
                 if net[i] != defined[i] {
-                    seen = Checked::Stopped(Refusal {
-                        number: 14,
-                        place: i,
-                    });
+                    seen = Checked::stop(14, i);
                     break 'places;
                 }
                 i += 1;
@@ -92,7 +95,7 @@ fn compare(net: &[u32], defined: &[u32], s: Shape) -> Checked
 
 // Check 4, for a box of n places and slices of these lengths.
 fn check_room(n: usize, net: usize, defined: usize, work: usize) -> Checked
-    ensures { λ r. ⌜ r ≡ refuseIf 4 (ltb net n || ltb defined n || ltb work n) Checked.Passed ⌝ }
+    ensures { λ r. ⌜ r ≡ refuseIf 4 (shorter net defined work n) Checked.Passed ⌝ }
 {
     if net < n {
         return Checked::stop(4, 0);
@@ -108,7 +111,9 @@ fn check_room(n: usize, net: usize, defined: usize, work: usize) -> Checked
 
 // All checks of an inspection: 3, 4, 14.
 fn check_net(c: Counts, net: &[u32], defined: &mut [u32], work: &mut [i32]) -> Checked
-    ensures { λ r. ⌜ r ≡ inspectChecks (counted c) (now (net .entry)) (length (now (defined .entry))) (length (now (work .entry))) ⌝ }
+    ensures { λ r. ⌜ r
+        ≡ inspectChecks (counted c) (now (net .entry)) (length (now (defined .entry)))
+        (length (now (work .entry))) ⌝ }
     ensures { λ _. ⌜ length (now (defined .exit)) ≡ length (now (defined .entry)) ⌝ }
     ensures { λ _. ⌜ length (now (work .exit)) ≡ length (now (work .entry)) ⌝ }
 {
@@ -136,7 +141,9 @@ pub fn inspect(
     defined: &mut [u32],
     work: &mut [i32],
 ) -> UnitAnswer
-    ensures answer { λ r. ⌜ r ≡ inspectAnswer unit (multiplicities v1 v2 v3 v4) (now (net .entry)) (length (now (defined .entry))) (length (now (work .entry))) ⌝ }
+    ensures answer { λ r. ⌜ r
+        ≡ inspectAnswer unit (multiplicities v1 v2 v3 v4) (now (net .entry))
+        (length (now (defined .entry))) (length (now (work .entry))) ⌝ }
     ensures defined { λ _. ⌜ length (now (defined .exit)) ≡ length (now (defined .entry)) ⌝ }
     ensures work { λ _. ⌜ length (now (work .exit)) ≡ length (now (work .entry)) ⌝ }
 {

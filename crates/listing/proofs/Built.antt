@@ -1,7 +1,7 @@
 -- What a build for a listing has left: a unit and a slice that can be listed.
 use mathlib.Core.List.{List, _++_, map}
 use mathlib.Core.Path.{_∙_, _≡_, ap, sym}
-use Prim.Native.Nat.{_<_, _≤_, ℕ}
+use Prim.Native.Nat.{_+_, _<_, _≤_, ℕ}
 use native.Mathlib.Omega.{arith}
 use lib.ListN.{List·getD-append, drop, getD, length, length-append, length-map}
 use Rattle.spline.proofs.Box.{length-netList, netList-at}
@@ -16,38 +16,51 @@ use Rattle.net.proofs.Orders.{order-at-most}
 use Rattle.net.specs.Build.{buildNet}
 use Rattle.net.specs.Order.{buildChecks, orderNumber, orderPlaces, orderWidth}
 use Rattle.listing.proofs.Printed.{net-text-cong, printed-made}
-use Rattle.listing.specs.Fit.{Listed}
+use Rattle.listing.specs.Inner.Fit.{Listed}
 use Rattle.listing.specs.Print.{netText, printedOrder}
 
 -- ---- the slice and the unit
-module _ (o : List ℕ) (passed : buildChecks o 9261 9261 ≡ Passed) (before net : List ℕ) (long : length before ≡ 9261) (built : net ≡ buildNet o before 9261) where
+module _
+    (o : List ℕ)
+    (passed : buildChecks o 9261 9261 ≡ Passed)
+    (before net : List ℕ)
+    (long : length before ≡ 9261)
+    (built : net ≡ buildNet o before 9261) where
   taken : BuildAccepted o 9261 9261
   taken = build-accepted o 9261 9261 passed
 
-  holds : net ≡ netList (orderWidth o) (orderNet o) ++ drop (orderPlaces o) before
+  abbrev numbers : List ℕ
+  numbers = netList (orderWidth o) (orderNet o)
+
+  holds : net ≡ numbers ++ drop (orderPlaces o) before
   unfolding buildNet
   holds = built ∙ simp (long, passed)
 
   number-at : (i : ℕ) → i < orderPlaces o → getD net i 0 ≡ orderNumber o i
   number-at i h =
       ap (λ (s : List ℕ). getD s i 0) holds
-      ∙ List·getD-append (netList (orderWidth o) (orderNet o)) _ 0 i (omega (arith, length-netList (orderWidth o) (orderNet o)))
+      ∙ List·getD-append numbers _ 0 i (omega (arith, length-netList (orderWidth o) (orderNet o)))
       ∙ netList-at (orderWidth o) (orderNet o) i h
 
+  -- it is within what the lines are written for
   pub listed : (room : ℕ) → 148198 ≤ room → Listed (withNet emptyUnit (orderMultiplicities o)) net room
   listed room h =
       let p = order-positive (map direction o) in
       let t = taken in
+      let w = orderWidth o in
+      let rest = drop (orderPlaces o) before in
+      let v = orderMultiplicities o in
+      let at-most : v .v1 + v .v2 + v .v3 + v .v4 ≤ 12 =
+      omega (arith, order-degree (map direction o), length-map o direction, t .good .short) in
       record {
-        least1 = p .p1;
-        least2 = p .p2;
-        least3 = p .p3;
-        least4 = p .p4;
-        most = omega (arith, order-degree (map direction o), length-map o direction, t .good .short);
-        held = omega (arith, ap length holds, length-append (netList (orderWidth o) (orderNet o)) (drop (orderPlaces o) before), length-netList (orderWidth o) (orderNet o));
-        small = λ i l. omega (arith, number-at i l, order-at-most o (t .good .short) (placeOf (orderWidth o) i));
+        limits = record { least1 = p .p1; least2 = p .p2; least3 = p .p3; least4 = p .p4; sum = at-most };
+        held = omega (arith, ap length holds, length-append numbers rest, length-netList w (orderNet o));
+        small = λ i l. omega (arith, number-at i l, order-at-most o (t .good .short) (placeOf w i));
         fits = omega (arith, t .net-room);
       }
 
+  -- its lines are what is printed for the order
   pub listed-text : netText (orderMultiplicities o) (λ i. getD net i 0) ≡ printedOrder o
-  listed-text = net-text-cong (orderMultiplicities o) (λ i. getD net i 0) (orderNumber o) number-at ∙ sym (printed-made o passed)
+  listed-text =
+      net-text-cong (orderMultiplicities o) (λ i. getD net i 0) (orderNumber o) number-at
+      ∙ sym (printed-made o passed)

@@ -1,4 +1,5 @@
 pub mod Texts
-pub mod Typed
+pub mod Orders
 pub mod Printed
+pub mod Reading
 pub mod Built

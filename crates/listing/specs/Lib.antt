@@ -1,4 +1,5 @@
 pub mod Order
 pub mod Text
 pub mod Print
-pub mod Fit
+pub mod Reading
+pub mod Inner

@@ -5,8 +5,8 @@ use Prim.Native.Nat.{_-_, ℕ}
 use lib.Dec.{eqb, leb}
 use lib.ListN.{getD, length, take}
 
--- "reads an order from standard input as digits .. other bytes count as 2's fault": a digit's number, and for any
--- other byte 0, which 2 refuses
+-- "reads an order from standard input as digits .. other bytes count as 2's fault": a digit's number, and for
+-- any other byte 0, which 2 refuses
 unfoldable pub digitNumber : ℕ → ℕ
 digitNumber b = cond (leb 48 b && leb b 57) (b - 48) 0
 

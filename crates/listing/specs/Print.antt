@@ -1,11 +1,11 @@
 -- What program `shares` prints: document 01, section "Hand-computed figures".
 use mathlib.Core.Bool.{cond}
 use mathlib.Core.List.{List, [], _++_, _∷_}
-use Prim.Native.Nat.{_%_, _/_, ℕ}
+use Prim.Native.Nat.{_%_, _*_, _/_, ℕ}
 use lib.Dec.{eqb}
-use Rattle.spline.specs.Box.{places, width}
+use Rattle.spline.specs.Box.{width}
 use Rattle.spline.specs.Multiplicities.{Multiplicities, degree, orderMultiplicities}
-use Rattle.spline.specs.Place.{Axis, a1, a2, a3}
+use Rattle.spline.specs.Place.{a1, a2, a3}
 use Rattle.unit.specs.Checks.{passedOr}
 use Rattle.unit.specs.declared.Refusal.{Refusal}
 use Rattle.net.specs.Order.{buildChecks, orderNumber}
@@ -21,18 +21,21 @@ degreeWord = 100 ∷ 101 ∷ 103 ∷ 114 ∷ 101 ∷ 101 ∷ 32 ∷ []
 
 -- "one line of `box`, W1, W2, W3, `degree`, m"
 unfoldable pub headerText : ℕ → ℕ → ℕ → ℕ → List ℕ
-headerText w1 w2 w3 m = boxWord ++ item w1 blank ++ item w2 blank ++ item w3 blank ++ degreeWord ++ item m newline
+headerText w1 w2 w3 m =
+    boxWord ++ item w1 blank ++ item w2 blank ++ item w3 blank ++ degreeWord ++ item m newline
 
 -- "a line for each non-zero place": x, y, z, number
 unfoldable pub placeText : ℕ → ℕ → ℕ → ℕ → List ℕ
 placeText x y z n = cond (eqb n 0) [] (item x blank ++ item y blank ++ item z blank ++ item n newline)
 
--- "in index order", for the number at each index
-unfoldable pub placesText : (Axis → ℕ) → (ℕ → ℕ) → List ℕ
-placesText W f = joined (λ i. placeText (i % W a1) (i / W a1 % W a2) (i / W a1 / W a2) (f i)) (places W)
+-- "in index order", for a box of these widths and the number at each of its indices
+unfoldable pub placesText : ℕ → ℕ → ℕ → (ℕ → ℕ) → List ℕ
+placesText w1 w2 w3 f = joined (λ i. placeText (i % w1) (i / w1 % w2) (i / w1 / w2) (f i)) (w1 * w2 * w3)
 
 unfoldable pub netText : Multiplicities → (ℕ → ℕ) → List ℕ
-netText v f = headerText (width v a1) (width v a2) (width v a3) (degree v) ++ placesText (width v) f
+netText v f =
+    headerText (width v a1) (width v a2) (width v a3) (degree v)
+    ++ placesText (width v a1) (width v a2) (width v a3) f
 
 -- "refused "
 abbrev pub refusedWord : List ℕ
@@ -44,7 +47,10 @@ refusedText r = refusedWord ++ item (r .number) newline
 
 -- "It serves boxes up to 9261 places, else 4": what the order's build with slices of so many places gives
 unfoldable pub printedOrder : List ℕ → List ℕ
-printedOrder order = passedOr (buildChecks order 9261 9261) (netText (orderMultiplicities order) (orderNumber order)) refusedText
+printedOrder order =
+    passedOr (buildChecks order 9261 9261)
+    (netText (orderMultiplicities order) (orderNumber order))
+    refusedText
 
 -- what is printed where these bytes are typed
 unfoldable pub printed : List ℕ → List ℕ

@@ -1,11 +1,8 @@
--- Text as bytes: numbers in base ten, items and the byte after each, and how text is put into a slice.
+-- Text as bytes: numbers in base ten, items and the byte after each.
 use mathlib.Core.Bool.{cond}
 use mathlib.Core.List.{List, [], _++_, _∷_}
-use mathlib.Core.Path.{_≡_}
 use Prim.Native.Nat.{_%_, _+_, _/_, suc, zero, ℕ}
 use lib.Dec.{ltb}
-use lib.ListN.{length}
-use lib.Seq.{sets}
 
 -- a number in base ten, the highest digit first, by at most k divisions
 unfoldable pub decimalBy : ℕ → ℕ → List ℕ
@@ -30,8 +27,3 @@ item n end = decimal n ++ (end ∷ [])
 unfoldable pub joined : (ℕ → List ℕ) → ℕ → List ℕ
 joined f zero = []
 joined f (suc n) = joined f n ++ f n
-
--- a slice with these bytes from one place on; the text goes on after them
-pub record Put (bytes before after : List ℕ) (at next : ℕ) : Type 0 where
-  pub goes-on : next ≡ at + length bytes
-  pub holds : after ≡ sets before at bytes

@@ -1,11 +1,12 @@
 // What program `shares` of document 01 prints, as text in a lent slice: the lines of the net that a typed
 // order builds, or the line of its refusal.
 ghost use mathlib.Core.Path.{_≡_};
-ghost use mathlib.Core.List.{_++_};
+ghost use mathlib.Core.List.{[], _++_};
 ghost use Prim.Native.Nat.{_≤_, min};
 ghost use lib.ListN.{length, drop, take};
-ghost use Rattle.listing.specs.Text.{Put};
 ghost use Rattle.listing.specs.Print.{printed, printedOrder};
+ghost use Rattle.listing.specs.Reading.{held, wantsMore, withByte};
+ghost use Rattle.listing.specs.Inner.Put.{Put};
 
 mod lines;
 mod order;
@@ -20,6 +21,15 @@ pub const PLACES: usize = 9261;
 // Room for every text: a first line of at most 22 bytes, and at most 16 for each place.
 pub const ROOM: usize = 22 + 16 * PLACES;
 
+// Typed bytes past so many change nothing of what is printed.
+const DECISIVE: usize = 10;
+
+// The typed bytes that have been read so far, one by one: the first `count` of `bytes`.
+pub struct Typed {
+    bytes: [u8; DECISIVE],
+    count: usize,
+}
+
 fn least(a: usize, b: usize) -> usize
     ensures { λ r. ⌜ (r ≡ min a b) × (r ≤ a) × (r ≤ b) ⌝ }
 {
@@ -29,7 +39,8 @@ fn least(a: usize, b: usize) -> usize
 // The text of an order.
 fn print_order(order: &[u8], out: &mut [u8]) -> usize
     requires { ⌜ 148198 ≤ length (now out) ⌝ }
-    ensures { λ r. ⌜ Put (printedOrder (now (order .entry))) (now (out .entry)) (now (out .exit)) 0 r × (r ≤ length (now (out .entry))) ⌝ }
+    ensures { λ r. ⌜ Put (printedOrder (now (order .entry))) (now (out .entry)) (now (out .exit)) 0 r
+        × (r ≤ length (now (out .entry))) ⌝ }
 {
     let mut net = [0u32; PLACES];
     let mut work = [0i32; PLACES];
@@ -52,4 +63,45 @@ pub fn print(typed: &[u8], out: &mut [u8; ROOM]) -> usize
     let mut order = [0u8; 9];
     order::read_order(typed, n, &mut order);
     print_order(&order[..n], out)
+}
+
+impl Typed {
+    pub fn nothing() -> Self
+        ensures { λ r. ⌜ held r ≡ [] ⌝ }
+    {
+        Typed {
+            bytes: [0; DECISIVE],
+            count: 0,
+        }
+    }
+
+    // Whether a further byte could change what is printed: where not, none does (`ten-decide`).
+    pub fn wants_more(self) -> bool
+        ensures { λ r. ⌜ r ≡ wantsMore (held self) ⌝ }
+    {
+        self.count < DECISIVE
+    }
+
+    // With the byte that was typed next; as they were where no more is wanted.
+    pub fn with_byte(mut self, byte: u8) -> Self
+        ensures { λ r. ⌜ held r ≡ withByte (held self) byte ⌝ }
+    {
+        let n = self.count;
+        if n < DECISIVE {
+            self.bytes[n] = byte;
+            self.count = n + 1;
+        }
+        self
+    }
+
+    // Puts what is printed for these bytes at the start of a slice, as `print` does.
+    pub fn print(self, out: &mut [u8; ROOM]) -> usize
+        ensures length { λ r. ⌜ r ≡ length (printed (held self)) ⌝ }
+        ensures text { λ r. ⌜ now (out .exit) ≡ printed (held self) ++ drop r (now (out .entry)) ⌝ }
+        ensures counted { λ r. ⌜ (r ≤ length (now (out .exit))) × (r ≡ length (take r (now (out .exit)))) ⌝ }
+    {
+        let n = least(self.count, DECISIVE);
+        let bytes = self.bytes;
+        print(&bytes[..n], out)
+    }
 }

@@ -1,10 +1,10 @@
 // The lines that are printed, put into a lent slice.
-ghost use Prim.Native.Nat.{ℕ, _+_, _*_, _/_, _%_, _≤_, _<_};
+ghost use Prim.Native.Nat.{ℕ, _+_, _≤_, _<_};
 ghost use lib.ListN.{length, getD};
 ghost use Rattle.unit.specs.Unit.{netOf};
-ghost use Rattle.listing.specs.Text.{joined, Put};
-ghost use Rattle.listing.specs.Print.{headerText, placeText, netText, refusedText};
-ghost use Rattle.listing.specs.Fit.{Lines, Listed};
+ghost use Rattle.listing.specs.Inner.Put.{Put};
+ghost use Rattle.listing.specs.Print.{headerText, placeText, placesText, netText, refusedText};
+ghost use Rattle.listing.specs.Inner.Fit.{Lines, Listed};
 use crate::text;
 use shape::Counts;
 use unit::Refusal;
@@ -13,7 +13,8 @@ use unit::Unit;
 // The line of a refusal.
 pub(crate) fn put_refusal(out: &mut [u8], refusal: Refusal) -> usize
     requires { ⌜ 19 ≤ length (now out) ⌝ }
-    ensures { λ r. ⌜ Put (refusedText refusal) (now (out .entry)) (now (out .exit)) 0 r × (r ≤ length (now (out .entry))) ⌝ }
+    ensures { λ r. ⌜ Put (refusedText refusal) (now (out .entry)) (now (out .exit)) 0 r
+        × (r ≤ length (now (out .entry))) ⌝ }
 {
     let at = text::put_word(out, 0, b"refused ");
     text::put_item(out, at, refusal.number as usize, b'\n')
@@ -35,7 +36,8 @@ fn put_header(out: &mut [u8], w1: usize, w2: usize, w3: usize, m: usize) -> usiz
 // The line of a place, where its number is not 0.
 fn put_place(out: &mut [u8], at: usize, x: usize, y: usize, z: usize, number: u32) -> usize
     requires { ⌜ (x < 100) × (y < 100) × (z < 100) × (number < 1000000) × (at + 16 ≤ length (now out)) ⌝ }
-    ensures { λ r. ⌜ Put (placeText x y z number) (now (out .entry)) (now (out .exit)) at r × (r ≤ at + 16) ⌝ }
+    ensures { λ r. ⌜ Put (placeText x y z number) (now (out .entry)) (now (out .exit)) at r
+        × (r ≤ at + 16) ⌝ }
 {
     if number == 0 {
         return at;
@@ -49,7 +51,9 @@ fn put_place(out: &mut [u8], at: usize, x: usize, y: usize, z: usize, number: u3
 // The lines of the places of a box, in index order.
 fn put_places(out: &mut [u8], start: usize, net: &[u32], w1: usize, w2: usize, w3: usize) -> usize
     requires { ⌜ Lines w1 w2 w3 (now net) start (length (now out)) ⌝ }
-    ensures { λ r. ⌜ Put (joined (λ (i : ℕ). placeText (i % w1) (i / w1 % w2) (i / w1 / w2) (getD (now (net .entry)) i 0)) (w1 * w2 * w3)) (now (out .entry)) (now (out .exit)) start r × (r ≤ length (now (out .entry))) ⌝ }
+    ensures { λ r. ⌜ Put (placesText w1 w2 w3 (λ (i : ℕ). getD (now (net .entry)) i 0))
+        (now (out .entry)) (now (out .exit)) start r
+        × (r ≤ length (now (out .entry))) ⌝ }
 {
     let n = w1 * w2 * w3;
     let mut at = start;
@@ -65,7 +69,9 @@ fn put_places(out: &mut [u8], start: usize, net: &[u32], w1: usize, w2: usize, w
 // The lines of a unit's net.
 pub(crate) fn put_net(out: &mut [u8], unit: Unit, net: &[u32]) -> usize
     requires { ⌜ Listed unit (now net) (length (now out)) ⌝ }
-    ensures { λ r. ⌜ Put (netText (netOf unit) (λ (i : ℕ). getD (now (net .entry)) i 0)) (now (out .entry)) (now (out .exit)) 0 r × (r ≤ length (now (out .entry))) ⌝ }
+    ensures { λ r. ⌜ Put (netText (netOf unit) (λ (i : ℕ). getD (now (net .entry)) i 0))
+        (now (out .entry)) (now (out .exit)) 0 r
+        × (r ≤ length (now (out .entry))) ⌝ }
 {
     let s = shape::shape_of(Counts::of_unit(unit));
     let at = put_header(out, s.w1, s.w2, s.w3, s.m);

@@ -35,7 +35,8 @@ pub(crate) fn order_length(typed: &[u8]) -> usize
 // Puts the numbers of the first n typed bytes at the start of a slice.
 pub(crate) fn read_order(typed: &[u8], n: usize, order: &mut [u8])
     requires { ⌜ (n ≤ length (now typed)) × (n ≤ length (now order)) ⌝ }
-    ensures { λ _. ⌜ now (order .exit) ≡ filled (λ (i : ℕ). digitNumber (getD (now (typed .entry)) i 0)) n (now (order .entry)) ⌝ }
+    ensures { λ _. ⌜ now (order .exit)
+        ≡ filled (λ (i : ℕ). digitNumber (getD (now (typed .entry)) i 0)) n (now (order .entry)) ⌝ }
 {
     let mut i = 0;
     while i < n {

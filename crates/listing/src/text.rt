@@ -1,7 +1,8 @@
 // Text that is put into a lent slice: each function answers where the text goes on.
 ghost use Prim.Native.Nat.{_+_, _≤_};
 ghost use lib.ListN.{length};
-ghost use Rattle.listing.specs.Text.{decimal, item, Put};
+ghost use Rattle.listing.specs.Inner.Put.{Put};
+ghost use Rattle.listing.specs.Text.{decimal, item};
 
 pub(crate) fn put_word(text: &mut [u8], at: usize, word: &[u8]) -> usize
     requires { ⌜ at + length (now word) ≤ length (now text) ⌝ }

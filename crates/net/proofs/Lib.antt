@@ -1,12 +1,4 @@
-pub mod Coordinates
-pub mod LoweredPlaces
-pub mod Bounds
-pub mod Cells
-pub mod NearPlaces
-pub mod DifferenceRows
-pub mod RowEnds
-pub mod EdgeSums
-pub mod LineRows
+pub mod Simple
 pub mod Telescope
 pub mod Orders
 pub mod TakenUp

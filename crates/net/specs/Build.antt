@@ -18,17 +18,24 @@ use Rattle.net.specs.Order.{buildChecks, orderPlaces, orderWidth}
 
 -- "and the unit has that net", for slices of these lengths
 unfoldable pub buildAnswer : Unit → List ℕ → ℕ → ℕ → UnitAnswer
-buildAnswer u order net work = passedOr (buildChecks order net work) (Changed (withNet u (orderMultiplicities order))) Refused
+buildAnswer u order netLength workLength =
+    passedOr (buildChecks order netLength workLength)
+    (Changed (withNet u (orderMultiplicities order)))
+    Refused
 
 -- "The first W1×W2×W3 places of the net slice then hold the net, the rest is unchanged"
 unfoldable pub buildNet : List ℕ → List ℕ → ℕ → List ℕ
-buildNet order net work =
-    passedOr (buildChecks order (length net) work) (netList (orderWidth order) (orderNet order) ++ drop (orderPlaces order) net) (λ _. net)
+buildNet order net workLength =
+    passedOr (buildChecks order (length net) workLength)
+    (netList (orderWidth order) (orderNet order) ++ drop (orderPlaces order) net)
+    (λ _. net)
 
 -- "The work slice afterwards is free", and a refused build leaves it as found
 abbrev pub workAfter : Checked → List ℤ → List ℤ → Type 0
 workAfter Passed before after = length after ≡ length before
 workAfter (Stopped r) before after = after ≡ before
 
+-- the work slice before and after a build
 unfoldable pub buildWork : List ℕ → ℕ → List ℤ → List ℤ → Type 0
-buildWork order net before after = workAfter (buildChecks order net (length before)) before after
+buildWork order netLength before after =
+    workAfter (buildChecks order netLength (length before)) before after

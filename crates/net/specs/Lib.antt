@@ -1,4 +1,3 @@
-pub mod Step
-pub mod Passes
 pub mod Order
 pub mod Build
+pub mod Inner

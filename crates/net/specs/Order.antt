@@ -1,11 +1,10 @@
 -- Orders as bytes: their checks, the net and the box that they lead to.
 use mathlib.Core.Bool.{Bool, _&&_, _||_, not}
 use mathlib.Core.List.{List}
-use mathlib.Core.Path.{_≡_}
-use Prim.Native.Nat.{_≤_, ℕ}
+use Prim.Native.Nat.{ℕ}
 use lib.Dec.{leb, ltb}
 use lib.ListN.{getD, length}
-use Rattle.sums.specs.Search.{first, nowhere}
+use Rattle.sums.specs.Search.{first}
 use Rattle.spline.specs.Box.{placeOf, places, width}
 use Rattle.spline.specs.Build.{orderNet}
 use Rattle.spline.specs.Multiplicities.{orderMultiplicities}
@@ -20,12 +19,15 @@ badByte b = not (leb 1 b && leb b 4)
 
 -- "1 order longer than 8", "2 a byte of the order is not 1 to 4": the first such byte
 unfoldable pub orderChecks : List ℕ → Checked
-orderChecks order = refuseIf 1 (ltb 8 (length order)) (refuseAt 2 (first (length order) (λ i. badByte (getD order i 0))) Passed)
+orderChecks order =
+    refuseIf 1 (ltb 8 (length order))
+    (refuseAt 2 (first (length order) (λ i. badByte (getD order i 0))) Passed)
 
--- the widths of the box that an order leads to, and its number of places
+-- the widths of the box that an order leads to
 abbrev pub orderWidth : List ℕ → Axis → ℕ
 orderWidth order = width (orderMultiplicities order)
 
+-- and its number of places
 abbrev pub orderPlaces : List ℕ → ℕ
 orderPlaces order = places (orderWidth order)
 
@@ -33,12 +35,9 @@ orderPlaces order = places (orderWidth order)
 abbrev pub orderNumber : List ℕ → ℕ → ℕ
 orderNumber order i = orderNet order (placeOf (orderWidth order) i)
 
--- "4 the net slice or any lent work slice shorter than W1×W2×W3", for slices of these lengths; "Checks: 1, 2, 4."
+-- "4 the net slice or any lent work slice shorter than W1×W2×W3", for slices of these lengths;
+-- "Checks: 1, 2, 4."
 unfoldable pub buildChecks : List ℕ → ℕ → ℕ → Checked
-buildChecks order net work =
-    andThen (orderChecks order) (refuseIf 4 (ltb net (orderPlaces order) || ltb work (orderPlaces order)) Passed)
-
--- an order to which neither 1 nor 2 applies
-pub record GoodOrder (order : List ℕ) : Type 0 where
-  pub short : length order ≤ 8
-  pub good : first (length order) (λ i. badByte (getD order i 0)) ≡ nowhere
+buildChecks order netLength workLength =
+    andThen (orderChecks order)
+    (refuseIf 4 (ltb netLength (orderPlaces order) || ltb workLength (orderPlaces order)) Passed)

@@ -3,12 +3,9 @@ ghost use mathlib.Core.Path.{_≡_};
 ghost use lib.ListN.{length};
 ghost use Rattle.net.specs.Build.{buildAnswer, buildNet, buildWork};
 
-mod differences;
 mod direction;
-mod lines;
 mod order;
 mod repeat;
-mod rows;
 
 use unit::Checked;
 use unit::Unit;
@@ -16,9 +13,12 @@ use unit::UnitAnswer;
 
 // Builds the net of an order: it goes to the start of the net slice, and its multiplicities to the unit.
 pub fn build(unit: Unit, order: &[u8], net: &mut [u32], work: &mut [i32]) -> UnitAnswer
-    ensures answer { λ r. ⌜ r ≡ buildAnswer unit (now (order .entry)) (length (now (net .entry))) (length (now (work .entry))) ⌝ }
-    ensures net { λ _. ⌜ now (net .exit) ≡ buildNet (now (order .entry)) (now (net .entry)) (length (now (work .entry))) ⌝ }
-    ensures work { λ _. ⌜ buildWork (now (order .entry)) (length (now (net .entry))) (now (work .entry)) (now (work .exit)) ⌝ }
+    ensures answer { λ r. ⌜ r
+        ≡ buildAnswer unit (now (order .entry)) (length (now (net .entry))) (length (now (work .entry))) ⌝ }
+    ensures net { λ _. ⌜ now (net .exit)
+        ≡ buildNet (now (order .entry)) (now (net .entry)) (length (now (work .entry))) ⌝ }
+    ensures work { λ _. ⌜ buildWork (now (order .entry)) (length (now (net .entry)))
+        (now (work .entry)) (now (work .exit)) ⌝ }
 {
     if let Checked::Stopped(refusal) = order::check_build(order, net.len(), work.len()) {
         return UnitAnswer::Refused(refusal);

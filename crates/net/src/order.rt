@@ -3,9 +3,11 @@ ghost use mathlib.Core.Path.{_≡_};
 ghost use lib.ListN.{length, getD};
 ghost use Rattle.sums.specs.Search.{first};
 ghost use Rattle.spline.specs.Multiplicities.{orderMultiplicities};
+ghost use Rattle.spline.specs.Inner.Limits.{Limits};
 ghost use Rattle.unit.specs.Checks.{refuseAt};
-ghost use Rattle.shape.specs.Shape.{counted, Limited};
-ghost use Rattle.net.specs.Order.{badByte, orderChecks, buildChecks, GoodOrder};
+ghost use Rattle.shape.specs.Shape.{counted};
+ghost use Rattle.net.specs.Order.{badByte, orderChecks, buildChecks};
+ghost use Rattle.net.specs.Inner.GoodOrder.{GoodOrder};
 use crate::direction;
 use shape::Counts;
 use unit::Checked;
@@ -15,7 +17,9 @@ const REPEATS: usize = 8;
 
 // Check 2.
 fn check_bytes(order: &[u8]) -> Checked
-    ensures { λ r. ⌜ r ≡ refuseAt 2 (first (length (now (order .entry))) (λ i. badByte (getD (now (order .entry)) i 0))) Checked.Passed ⌝ }
+    ensures { λ r. ⌜ r
+        ≡ refuseAt 2 (first (length (now (order .entry))) (λ i. badByte (getD (now (order .entry)) i 0)))
+        Checked.Passed ⌝ }
 {
     let mut i = 0;
     while i < order.len() {
@@ -60,7 +64,7 @@ pub(crate) fn check_build(order: &[u8], net: usize, work: usize) -> Checked
 // The multiplicities that an order leads to.
 pub(crate) fn counts_of(order: &[u8]) -> Counts
     requires { ⌜ GoodOrder (now order) ⌝ }
-    ensures { λ r. ⌜ (counted r ≡ orderMultiplicities (now (order .entry))) × Limited r 12 ⌝ }
+    ensures { λ r. ⌜ (counted r ≡ orderMultiplicities (now (order .entry))) × Limits (counted r) 12 ⌝ }
 {
     let mut c = Counts {
         v1: 1,

@@ -1,4 +1,3 @@
-pub mod Sizes
-pub mod Order
+pub mod Ranks
 pub mod Scale
 pub mod Placed

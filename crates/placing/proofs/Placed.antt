@@ -22,6 +22,7 @@ pub record Equipped (u : Unit) : Type 0 where
   pub net-held : hasNet u ≡ true
   pub block-held : hasBlock u ≡ true
 
+-- a unit that passes 21 and 22 has a net and a block
 pub equipped : (u : Unit) → unitChecks u ≡ Passed → Equipped u
 unfolding unitChecks
 equipped u h =
@@ -29,36 +30,50 @@ equipped u h =
     let b = if-passed 22 _ _ (a .1) in
     record { net-held = not-false _ (a .0); block-held = not-false _ (b .0) }
 
-pub record Placed (u : Unit) (x y z D : ℕ) : Type 0 where
+pub record PointAccepted (u : Unit) (x y z D : ℕ) : Type 0 where
   pub some : 1 ≤ D
   pub few : D ≤ 4096
   pub scaled : scale (degree (netOf u)) D ≤ limit
   pub point-inside : inside (netOf u) (sizes u) (cells x y z D) ≡ true
 
-pub placed : (u : Unit) (x y z D : ℕ) → pointChecks u x y z D ≡ Passed → Placed u x y z D
+-- a point that passes 10, 11 and 12: its divisor is within limits, and its cell is inside
+pub point-accepted : (u : Unit) (x y z D : ℕ) → pointChecks u x y z D ≡ Passed → PointAccepted u x y z D
 unfolding pointChecks
-placed u x y z D h =
+point-accepted u x y z D h =
     let a = if-passed 10 _ _ h in
     let b = if-passed 11 _ _ (a .1) in
     let c = if-passed 12 _ _ (b .1) in
     let d = or-false _ _ (a .0) in
-    record { some = pos-of-ne-zero (eqb-false _ _ (d .0)); few = ltb-false _ _ (d .1); scaled = ltb-false _ _ (b .0); point-inside = not-false _ (c .0) }
+    record {
+      some = pos-of-ne-zero (eqb-false _ _ (d .0));
+      few = ltb-false _ _ (d .1);
+      scaled = ltb-false _ _ (b .0);
+      point-inside = not-false _ (c .0);
+    }
 
 -- ---- what a placing call answered
 
-pub refused-by : (k : Checked) (q : Placing) {r : Refusal} → passedOr k (answers.Placed q) answers.Refused ≡ answers.Refused r → k ≡ Stopped r
+-- a refusal is that of the checks
+pub refused-by : (k : Checked) (q : Placing) {r : Refusal}
+    → passedOr k (answers.Placed q) answers.Refused ≡ answers.Refused r → k ≡ Stopped r
 refused-by Passed q h = let z : _≡_ {A = ℕ} 0 1 = cc in absurd (omega arith)
 refused-by (Stopped s) q h = cc
 
-placed-by : (k : Checked) (q : Placing) {t : Placing} → passedOr k (answers.Placed q) answers.Refused ≡ answers.Placed t → (k ≡ Passed) × (t ≡ q)
+-- a placing is answered where all checks passed
+placed-by : (k : Checked) (q : Placing) {t : Placing}
+    → passedOr k (answers.Placed q) answers.Refused ≡ answers.Placed t → (k ≡ Passed) × (t ≡ q)
 placed-by Passed q h = (refl, cc)
 placed-by (Stopped s) q h = let z : _≡_ {A = ℕ} 0 1 = cc in absurd (omega arith)
 
 module _ (u : Unit) (x y z D : ℕ) (e : unitChecks u ≡ Passed) where
-  pub place-refused : {r : Refusal} → placeAnswer u x y z D ≡ answers.Refused r → pointChecks u x y z D ≡ Stopped r
+  -- for a unit that passes, a refusal is that of the point's checks
+  pub place-refused : {r : Refusal} → placeAnswer u x y z D ≡ answers.Refused r
+      → pointChecks u x y z D ≡ Stopped r
   unfolding placeAnswer
   place-refused h = refused-by (pointChecks u x y z D) (placing x y z D) (rw e at h)
 
-  pub place-placed : {q : Placing} → placeAnswer u x y z D ≡ answers.Placed q → (pointChecks u x y z D ≡ Passed) × (q ≡ placing x y z D)
+  -- and a placing is the point's, which has passed its checks
+  pub place-placed : {q : Placing} → placeAnswer u x y z D ≡ answers.Placed q
+      → (pointChecks u x y z D ≡ Passed) × (q ≡ placing x y z D)
   unfolding placeAnswer
   place-placed h = placed-by (pointChecks u x y z D) (placing x y z D) (rw e at h)

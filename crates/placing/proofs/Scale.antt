@@ -7,6 +7,7 @@ use native.Mathlib.Omega.{arith}
 use Rattle.sums.proofs.Coefficient.{factorial-suc, factorial-zero}
 use Rattle.placing.specs.Place.{scale}
 
+-- the product of no factors
 pub scale-zero : (D : ℕ) → scale 0 D ≡ 1
 scale-zero D = rw (factorial-zero, pow-zero D) refl
 
@@ -23,5 +24,6 @@ grown i (suc k) D h =
     let more = mul-le-mul-left (scale (i + k) D) (mul-le-mul one h) in
     rw (add-suc i k, ← add-one (i + k), scale-next (i + k) D) (omega arith)
 
+-- a larger degree makes it no smaller
 pub scale-le : (i m D : ℕ) → 1 ≤ D → i ≤ m → scale i D ≤ scale m D
 scale-le i m D h l = let e : i + (m - i) ≡ m = omega arith in rw e at (grown i (m - i) D h)

@@ -33,4 +33,5 @@ pointChecks u x y z D =
     (refuseIf 12 (not (inside (netOf u) (sizes u) (cells x y z D))) Passed))
 
 unfoldable pub placeAnswer : Unit → ℕ → ℕ → ℕ → ℕ → PlacingAnswer
-placeAnswer u x y z D = passedOr (andThen (unitChecks u) (pointChecks u x y z D)) (Placed (placing x y z D)) Refused
+placeAnswer u x y z D =
+    passedOr (andThen (unitChecks u) (pointChecks u x y z D)) (Placed (placing x y z D)) Refused

@@ -1,12 +1,11 @@
--- Where a point lies: its cell, the order of the axes and the four weights.
+-- Where a point lies: its cell, the ranks of the axes and the four weights.
 use mathlib.Core.Bool.{Bool, _&&_, cond}
-use Prim.Native.Nat.{_%_, _+_, _-_, _/_, ℕ}
+use Prim.Native.Nat.{_%_, _-_, _/_, ℕ}
 use lib.Dec.{leb}
 use Rattle.spline.specs.Multiplicities.{Multiplicities, extent}
 use Rattle.spline.specs.Place.{Axis, a1, a2, a3}
 use Rattle.unit.specs.declared.Unit.{Unit}
 use Rattle.placing.specs.declared.Placing.{Placing}
-use Rattle.placing.specs.declared.Ranking.{Ranking}
 
 -- a number for each axis
 abbrev pub onAxes : ℕ → ℕ → ℕ → Axis → ℕ
@@ -37,31 +36,33 @@ insideOn E n k = leb (E - 1) k && leb k (n - 1)
 
 -- "The point is inside when on every axis Eb−1 ≤ k ≤ nb−1."
 unfoldable pub inside : Multiplicities → (Axis → ℕ) → (Axis → ℕ) → Bool
-inside v n k = insideOn (extent v a1) (n a1) (k a1) && insideOn (extent v a2) (n a2) (k a2) && insideOn (extent v a3) (n a3) (k a3)
+inside v n k =
+    insideOn (extent v a1) (n a1) (k a1)
+    && insideOn (extent v a2) (n a2) (k a2)
+    && insideOn (extent v a3) (n a3) (k a3)
 
 -- the axes p, r, s
-pub record Order : Type 0 where
+pub record AxisRanks : Type 0 where
   pub p : Axis
   pub r : Axis
   pub s : Axis
 
-abbrev pub order : Axis → Axis → Axis → Order
-order p r s = record { p = p; r = r; s = s }
+abbrev pub axisRanks : Axis → Axis → Axis → AxisRanks
+axisRanks p r s = record { p = p; r = r; s = s }
 
 -- two axes in order, a first, and axis 3 among them: behind each whose u is not smaller than its own
-unfoldable pub withThird : (Axis → ℕ) → Axis → Axis → Order
-withThird u a b = cond (leb (u a3) (u b)) (order a b a3) (cond (leb (u a3) (u a)) (order a a3 b) (order a3 a b))
+unfoldable pub withThird : (Axis → ℕ) → Axis → Axis → AxisRanks
+withThird u a b =
+    cond (leb (u a3) (u b)) (axisRanks a b a3)
+    (cond (leb (u a3) (u a)) (axisRanks a a3 b) (axisRanks a3 a b))
 
 -- "Order the axes by u, largest first, ties by the lower axis number; call them p, r, s."
-unfoldable pub axisOrder : (Axis → ℕ) → Order
-axisOrder u = cond (leb (u a2) (u a1)) (withThird u a1 a2) (withThird u a2 a1)
-
-abbrev pub ranking : (Axis → ℕ) → Order → Ranking
-ranking u o = record { p = axisNumber (o .p); r = axisNumber (o .r); s = axisNumber (o .s); up = u (o .p); ur = u (o .r); us = u (o .s) }
+unfoldable pub rankAxes : (Axis → ℕ) → AxisRanks
+rankAxes u = cond (leb (u a2) (u a1)) (withThird u a1 a2) (withThird u a2 a1)
 
 -- "The weights are L0 = D−u(p), L1 = u(p)−u(r), L2 = u(r)−u(s), L3 = u(s)."
-abbrev pub placed : (Axis → ℕ) → (Axis → ℕ) → ℕ → Order → Placing
-placed k u D o = record {
+abbrev pub placingBy : (Axis → ℕ) → (Axis → ℕ) → ℕ → AxisRanks → Placing
+placingBy k u D o = record {
   k1 = k a1;
   k2 = k a2;
   k3 = k a3;
@@ -76,25 +77,9 @@ placed k u D o = record {
 
 -- the placing of X, Y, Z over D
 unfoldable pub placing : ℕ → ℕ → ℕ → ℕ → Placing
-placing x y z D = placed (cells x y z D) (remainders x y z D) D (axisOrder (remainders x y z D))
-
--- the axes p, r, s with their remainders
-abbrev pub ranked : ℕ → ℕ → ℕ → Ranking
-ranked u1 u2 u3 = ranking (onAxes u1 u2 u3) (axisOrder (onAxes u1 u2 u3))
+placing x y z D =
+    placingBy (cells x y z D) (remainders x y z D) D (rankAxes (remainders x y z D))
 
 -- k of a placing
-abbrev pub cell : Placing → Axis → ℕ
-cell q = onAxes (q .k1) (q .k2) (q .k3)
-
--- D, which the weights add up to
-abbrev pub weightSum : Placing → ℕ
-weightSum q = q .l0 + q .l1 + q .l2 + q .l3
-
--- the numbers of the three axes, in some order
-pub data Axes : ℕ → ℕ → ℕ → Type 0 where
-  o123 : Axes 1 2 3
-  o132 : Axes 1 3 2
-  o213 : Axes 2 1 3
-  o231 : Axes 2 3 1
-  o312 : Axes 3 1 2
-  o321 : Axes 3 2 1
+abbrev pub placingCell : Placing → Axis → ℕ
+placingCell q = onAxes (q .k1) (q .k2) (q .k3)

@@ -1,15 +1,19 @@
-// Where a point lies: its cell, the order of the axes and the four weights; or the refusal that it meets.
+// Where a point lies: its cell, the ranks of the axes and the four weights; or the refusal that it meets.
 ghost use mathlib.Core.Path.{_≡_};
 ghost use mathlib.Core.Bool.{true};
 ghost use Prim.Native.Nat.{_+_, _≤_};
 ghost use lib.Dec.{leb};
 ghost use Rattle.unit.specs.Unit.{netOf, hasNet, hasBlock};
-ghost use Rattle.placing.specs.Placing.{onAxes, sizes, ranked, placing, insideOn, inside};
+ghost use Rattle.placing.specs.Placing.{inside, insideOn, onAxes, placing, sizes};
+ghost use Rattle.placing.specs.Inner.Ranking.{ranked};
 ghost use Rattle.placing.specs.Place.{scale, limit, unitChecks, pointChecks, placeAnswer};
 use shape::Counts;
 use unit::Checked;
 use unit::Refusal;
 use unit::Unit;
+
+// The largest m!×D^m: 2^48.
+const SCALE: u64 = 281474976710656;
 
 // k on the three axes, the axes in the order p, r, s, and the weights, whose sum is D.
 pub struct Placing {
@@ -137,7 +141,7 @@ fn scale_allowed(m: usize, divisor: u32) -> bool
     while i < m as u64 {
         i += 1;
         product = product * (i * d);
-        if 281474976710656 < product {
+        if SCALE < product {
             return false;
         }
     }

@@ -10,7 +10,7 @@ use lib.Dec.{leb}
 use Rattle.sums.proofs.Places.{index-in}
 use Rattle.sums.proofs.Search.{first-hit, nowhere-at, nowhere-first}
 use Rattle.sums.specs.Search.{Found, at, first, nowhere, orElse}
-use Rattle.point.specs.Window.{firstOf}
+use Rattle.point.specs.Inner.Window.{firstOf}
 
 -- ---- what a search says of its steps
 
@@ -19,7 +19,9 @@ unfolding firstOf
 none-of zero f h k l = absurd (omega arith)
 none-of (suc n) f h k l = go (firstOf n f) (f n) h (λ e k. none-of n f e k) refl refl
   where
-    go : (g r : Found) → orElse g r ≡ nowhere → (firstOf n f ≡ nowhere → (k : ℕ) → k < n → f k ≡ nowhere) → firstOf n f ≡ g → f n ≡ r → f k ≡ nowhere
+    go : (g r : Found) → orElse g r ≡ nowhere
+        → (firstOf n f ≡ nowhere → (k : ℕ) → k < n → f k ≡ nowhere)
+        → firstOf n f ≡ g → f n ≡ r → f k ≡ nowhere
     go nowhere r h ih e d = ⊎-elim
         (λ (s : suc k ≤ n). ih e k s)
         (λ (s : suc k ≡ suc n). let s′ : k ≡ n = omega arith in rw s′ (d ∙ h))
@@ -38,7 +40,8 @@ unfolding firstOf
 hit-of zero f i h = absurd (nowhere-at h)
 hit-of (suc n) f i h = go (firstOf n f) (f n) h (hit-of n f i) refl refl
   where
-    go : (g r : Found) → orElse g r ≡ at i → (firstOf n f ≡ at i → Hit n f i) → firstOf n f ≡ g → f n ≡ r → Hit (suc n) f i
+    go : (g r : Found) → orElse g r ≡ at i → (firstOf n f ≡ at i → Hit n f i)
+        → firstOf n f ≡ g → f n ≡ r → Hit (suc n) f i
     go nowhere r h ih e d = record { step = n; below = omega arith; here = d ∙ h; before = none-of n f e }
     go (at j) r h ih e d =
         let p = ih (e ∙ h) in
@@ -62,15 +65,18 @@ compare a b = go (leb a b) refl
     go true e = ⊎-elim (λ s. inr (inl s)) (λ s. inl s) (eq-or-lt-of-le (leb-true a b e))
     go false e = inr (inr (leb-false a b e))
 
-later-layer : (n1 n2 x y z x′ y′ z′ : ℕ) → x < n1 → y < n2 → z < z′ → x + n1 * (y + n2 * z) < x′ + n1 * (y′ + n2 * z′)
-later-layer n1 n2 x y z x′ y′ z′ hx hy hz = omega (arith, index-in n1 n2 (suc z) x y z hx hy (le-refl (suc z)), mul-le-mul-left (n1 * n2) hz)
+later-layer : (n1 n2 x y z x′ y′ z′ : ℕ) → x < n1 → y < n2 → z < z′
+    → x + n1 * (y + n2 * z) < x′ + n1 * (y′ + n2 * z′)
+later-layer n1 n2 x y z x′ y′ z′ hx hy hz =
+    omega (arith, index-in n1 n2 (suc z) x y z hx hy (le-refl (suc z)), mul-le-mul-left (n1 * n2) hz)
 
 later-row : (n1 x y x′ y′ Y : ℕ) → x < n1 → y < y′ → x + n1 * (y + Y) < x′ + n1 * (y′ + Y)
 later-row n1 x y x′ y′ Y hx hy = omega (arith, mul-le-mul-left n1 hy)
 
 -- ---- the window from (lo1, lo2, lo3), of e1, e2, e3 entries, in a block of sizes n1, n2, n3
 
-module _ (n1 n2 n3 lo1 lo2 lo3 e1 e2 e3 : ℕ) (in1 : lo1 + e1 ≤ n1) (in2 : lo2 + e2 ≤ n2) (in3 : lo3 + e3 ≤ n3) (gap : ℕ → Bool) where
+module _ (n1 n2 n3 lo1 lo2 lo3 e1 e2 e3 : ℕ) (in1 : lo1 + e1 ≤ n1) (in2 : lo2 + e2 ≤ n2)
+    (in3 : lo3 + e3 ≤ n3) (gap : ℕ → Bool) where
   abbrev pub windowIndex : ℕ → ℕ → ℕ → ℕ
   windowIndex t1 t2 t3 = lo1 + n1 * (lo2 + n2 * (lo3 + t3) + t2) + t1
 
@@ -137,11 +143,13 @@ module _ (n1 n2 n3 lo1 lo2 lo3 e1 e2 e3 : ℕ) (in1 : lo1 + e1 ≤ n1) (in2 : lo
           p .is-index,
           index-is r1 r2 (p .t3),
           index-is (p .t1) (p .t2) (p .t3),
-          later-row n1 (lo1 + p .t1) (lo2 + p .t2) (lo1 + r1) (lo2 + r2) (n2 * (lo3 + p .t3)) (omega (arith, p .low1)) (omega arith),
+          later-row n1 (lo1 + p .t1) (lo2 + p .t2) (lo1 + r1) (lo2 + r2) (n2 * (lo3 + p .t3))
+              (omega (arith, p .low1)) (omega arith),
         ))))
         (compare r2 (p .t2))
 
-    earlier : (r1 r2 r3 : ℕ) → r1 < e1 → r2 < e2 → windowIndex r1 r2 r3 < i → gap (windowIndex r1 r2 r3) ≡ false
+    earlier : (r1 r2 r3 : ℕ) → r1 < e1 → r2 < e2 → windowIndex r1 r2 r3 < i
+        → gap (windowIndex r1 r2 r3) ≡ false
     earlier r1 r2 r3 l1 l2 h = ⊎-elim
         (λ (s : r3 < p .t3). no-gap r1 r2 r3 l1 l2 (p .planes-before r3 s))
         (⊎-elim
@@ -153,16 +161,23 @@ module _ (n1 n2 n3 lo1 lo2 lo3 e1 e2 e3 : ℕ) (in1 : lo1 + e1 ≤ n1) (in2 : lo
           p .is-index,
           index-is r1 r2 r3,
           index-is (p .t1) (p .t2) (p .t3),
-          later-layer n1 n2 (lo1 + p .t1) (lo2 + p .t2) (lo3 + p .t3) (lo1 + r1) (lo2 + r2) (lo3 + r3) (omega (arith, p .low1)) (omega (arith, p .low2)) (omega arith),
+          later-layer n1 n2 (lo1 + p .t1) (lo2 + p .t2) (lo3 + p .t3) (lo1 + r1) (lo2 + r2) (lo3 + r3)
+              (omega (arith, p .low1)) (omega (arith, p .low2)) (omega arith),
         ))))
         (compare r3 (p .t3))
 
   -- a test that holds of the window's gaps, and of nothing else, finds the same
   module _ (test : ℕ → Bool)
-      (yes : (t1 t2 t3 : ℕ) → t1 < e1 → t2 < e2 → t3 < e3 → gap (windowIndex t1 t2 t3) ≡ true → test (windowIndex t1 t2 t3) ≡ true)
-      (no : (i : ℕ) → i < n1 * n2 * n3 → ((t1 t2 t3 : ℕ) → t1 < e1 → t2 < e2 → t3 < e3 → windowIndex t1 t2 t3 ≡ i → gap (windowIndex t1 t2 t3) ≡ false) → test i ≡ false) where
+      (yes : (t1 t2 t3 : ℕ) → t1 < e1 → t2 < e2 → t3 < e3 → gap (windowIndex t1 t2 t3) ≡ true
+      → test (windowIndex t1 t2 t3) ≡ true)
+      (no : (i : ℕ) → i < n1 * n2 * n3
+      → ((t1 t2 t3 : ℕ) → t1 < e1 → t2 < e2 → t3 < e3 → windowIndex t1 t2 t3 ≡ i
+      → gap (windowIndex t1 t2 t3) ≡ false)
+      → test i ≡ false) where
     found : (g : Found) → firstOf e3 planes ≡ g → first (n1 * n2 * n3) test ≡ g
-    found nowhere h = nowhere-first test (n1 * n2 * n3) (λ i l. no i l (λ t1 t2 t3 l1 l2 l3 e. no-gap t1 t2 t3 l1 l2 (none-of e3 planes h t3 l3)))
+    found nowhere h =
+        nowhere-first test (n1 * n2 * n3)
+        (λ i l. no i l (λ t1 t2 t3 l1 l2 l3 e. no-gap t1 t2 t3 l1 l2 (none-of e3 planes h t3 l3)))
     found (at i) h =
         let p = place-of i h in
         let e = p .is-index in
@@ -171,10 +186,15 @@ module _ (n1 n2 n3 lo1 lo2 lo3 e1 e2 e3 : ℕ) (in1 : lo1 + e1 ≤ n1) (in2 : lo
           arith,
           e,
           index-is (p .t1) (p .t2) (p .t3),
-          index-in n1 n2 n3 (lo1 + p .t1) (lo2 + p .t2) (lo3 + p .t3) (omega (arith, p .low1)) (omega (arith, p .low2)) (omega (arith, p .low3)),
+          index-in n1 n2 n3 (lo1 + p .t1) (lo2 + p .t2) (lo3 + p .t3) (omega (arith, p .low1))
+              (omega (arith, p .low2)) (omega (arith, p .low3)),
         ) in
-        let before = nowhere-first test i (λ k s. no k (omega arith) (λ t1 t2 t3 l1 l2 l3 d. earlier i p t1 t2 t3 l1 l2 (omega arith))) in
-        first-hit test (n1 * n2 * n3) i before (rw e at (yes (p .t1) (p .t2) (p .t3) (p .low1) (p .low2) (p .low3) (p .is-gap))) l
+        let before =
+        nowhere-first test i
+        (λ k s. no k (omega arith) (λ t1 t2 t3 l1 l2 l3 d. earlier i p t1 t2 t3 l1 l2 (omega arith))) in
+        let here = rw e at (yes (p .t1) (p .t2) (p .t3) (p .low1) (p .low2) (p .low3) (p .is-gap)) in
+        first-hit test (n1 * n2 * n3) i before here l
 
+    -- the nested search is the search through all indices
     pub nested-first : firstOf e3 planes ≡ first (n1 * n2 * n3) test
     nested-first = sym (found (firstOf e3 planes) refl)

@@ -7,10 +7,11 @@ use native.Mathlib.Numerals.{add-one}
 use native.Mathlib.Omega.{arith}
 use Rattle.sums.proofs.Search.{nowhere-at}
 use Rattle.sums.specs.Search.{Found, at, nowhere}
-use Rattle.point.specs.Window.{Searched, firstOf, gapOf}
+use Rattle.point.specs.Inner.Window.{Searched, firstOf, gapOf}
 use Rattle.point.specs.declared.window.Gap.the-variants.{At, Nowhere}
 
 module _ (f : ℕ → Found) where
+  -- a search of nothing finds nothing
   pub first-of-none : firstOf 0 f ≡ nowhere
   unfolding firstOf
   first-of-none = refl
@@ -32,7 +33,8 @@ module _ (f : ℕ → Found) where
 pub searched-hit : (found : Found) (Passed : Type 0) {i : ℕ} → found ≡ at i → Searched found Passed (At i)
 searched-hit found Passed e = record { answers = rw e refl; passed = λ n. absurd (nowhere-at (sym n ∙ e)) }
 
-pub searched-none : (found : Found) (Passed : Type 0) → found ≡ nowhere → Passed → Searched found Passed Nowhere
+pub searched-none : (found : Found) (Passed : Type 0) → found ≡ nowhere → Passed
+    → Searched found Passed Nowhere
 searched-none found Passed e p = record { answers = rw e refl; passed = λ n. p }
 
 pub gap-at : (found : Found) {i : ℕ} → gapOf found ≡ At i → found ≡ at i

@@ -10,18 +10,30 @@ use Rattle.sums.proofs.MachineSizes.{fits-size}
 use Rattle.sums.proofs.Signed.{abs-add, abs-mul}
 use Rattle.sums.proofs.Sum.{sum-next, sum-zero}
 use Rattle.sums.proofs.SumZ.{sumZ-next, sumZ-zero}
-use Rattle.point.specs.Window.{Small, addSums, entrySums, sums, sumsTo}
+use Rattle.point.specs.Inner.Window.{Small, addSums, entrySums, sums, sumsTo}
 use Rattle.point.specs.declared.window.Sums.{Sums}
 
 -- no turn, and one turn more
 pub sums-none : (f : ℕ → Sums) → sums 0 (pos 0) 0 ≡ sumsTo 0 f
 unfolding sumsTo
-sums-none f = rw (sum-zero (λ i. f i .shares), sumZ-zero (λ i. f i .corrections), sum-zero (λ i. f i .uncertainties)) refl
+sums-none f =
+    rw (
+      sum-zero (λ i. f i .shares),
+      sumZ-zero (λ i. f i .corrections),
+      sum-zero (λ i. f i .uncertainties),
+    ) refl
 
-pub sums-next : (f : ℕ → Sums) (i : ℕ) {t s : Sums} → t ≡ sumsTo i f → s ≡ f i → addSums t s ≡ sumsTo (i + 1) f
+pub sums-next : (f : ℕ → Sums) (i : ℕ) {t s : Sums} → t ≡ sumsTo i f → s ≡ f i
+    → addSums t s ≡ sumsTo (i + 1) f
 unfolding sumsTo
 sums-next f i e d =
-    rw (e, d, sum-next i (λ j. f j .shares), sumZ-next i (λ j. f j .corrections), sum-next i (λ j. f j .uncertainties)) refl
+    rw (
+      e,
+      d,
+      sum-next i (λ j. f j .shares),
+      sumZ-next i (λ j. f j .corrections),
+      sum-next i (λ j. f j .uncertainties),
+    ) refl
 
 -- the same on top of the sums so far
 add-none : (from : Sums) → from ≡ addSums from (sums 0 (pos 0) 0)
@@ -29,37 +41,68 @@ add-none from = rw (add-zero (from .shares), +ℤ-idr (from .corrections), add-z
 
 add-assoc-sums : (a b c : Sums) → addSums (addSums a b) c ≡ addSums a (addSums b c)
 add-assoc-sums a b c =
-    rw (add-assoc (a .shares) (b .shares) (c .shares), +ℤ-assoc (a .corrections) (b .corrections) (c .corrections), add-assoc (a .uncertainties) (b .uncertainties) (c .uncertainties)) refl
+    rw (
+      add-assoc (a .shares) (b .shares) (c .shares),
+      +ℤ-assoc (a .corrections) (b .corrections) (c .corrections),
+      add-assoc (a .uncertainties) (b .uncertainties) (c .uncertainties),
+    ) refl
 
 pub sums-start : (f : ℕ → Sums) (from : Sums) → from ≡ addSums from (sumsTo 0 f)
 sums-start f from = add-none from ∙ ap (addSums from) (sums-none f)
 
-pub sums-on : (f : ℕ → Sums) (i : ℕ) (from : Sums) {t s : Sums} → t ≡ addSums from (sumsTo i f) → s ≡ f i → addSums t s ≡ addSums from (sumsTo (i + 1) f)
-sums-on f i from {t} {s} e d = ap (λ (r : Sums). addSums r s) e ∙ add-assoc-sums from (sumsTo i f) s ∙ ap (addSums from) (sums-next f i refl d)
+pub sums-on : (f : ℕ → Sums) (i : ℕ) (from : Sums) {t s : Sums} → t ≡ addSums from (sumsTo i f) → s ≡ f i
+    → addSums t s ≡ addSums from (sumsTo (i + 1) f)
+sums-on f i from {t} {s} e d =
+    ap (λ (r : Sums). addSums r s) e
+    ∙ add-assoc-sums from (sumsTo i f) s
+    ∙ ap (addSums from) (sums-next f i refl d)
 
+-- ---- sizes
+
+-- those of no entry, of two sets of entries, and of fewer than n
 pub small-none : Small 0 (sums 0 (pos 0) 0)
-small-none = record { shares-small = omega arith; corrections-small = omega arith; uncertainties-small = omega arith }
+small-none = record {
+  shares-small = omega arith;
+  corrections-small = omega arith;
+  uncertainties-small = omega arith;
+}
 
 pub small-add : {a b : ℕ} {s t : Sums} (n : ℕ) → Small a s → Small b t → a + b ≤ n → Small n (addSums s t)
 small-add {s = s} {t = t} n h k l =
     let z = abs-add (s .corrections) (t .corrections) in
-    record { shares-small = omega arith; corrections-small = omega arith; uncertainties-small = omega arith }
+    record {
+      shares-small = omega arith;
+      corrections-small = omega arith;
+      uncertainties-small = omega arith;
+    }
 
 pub small-more : {a : ℕ} {s : Sums} (n : ℕ) → Small a s → a ≤ n → Small n s
-small-more n h l = record { shares-small = omega arith; corrections-small = omega arith; uncertainties-small = omega arith }
+small-more n h l = record {
+  shares-small = omega arith;
+  corrections-small = omega arith;
+  uncertainties-small = omega arith;
+}
 
 -- ---- one entry
 
-module _ (share : ℕ) (correction : ℤ) (uncertainty : ℕ) (hs : share < 2 ^ 32) (hc : SFits w16 correction) (hu : uncertainty < 2 ^ 16) where
+module _ (share : ℕ) (correction : ℤ) (uncertainty : ℕ) (hs : share < 2 ^ 32) (hc : SFits w16 correction)
+    (hu : uncertainty < 2 ^ 16) where
   pub entry-correction : natAbs correction * share ≤ 140737488355328
   entry-correction = let s : share ≤ 4294967296 = omega arith in mul-le-mul (fits-size w16 correction hc) s
 
   pub entry-uncertainty : share * uncertainty ≤ 281474976710656
-  entry-uncertainty = let s : share ≤ 4294967296 = omega arith in let u : uncertainty ≤ 65536 = omega arith in mul-le-mul s u
+  entry-uncertainty =
+      let s : share ≤ 4294967296 = omega arith in
+      let u : uncertainty ≤ 65536 = omega arith in
+      mul-le-mul s u
 
   pub small-entry : Small 1 (entrySums share correction uncertainty)
   small-entry =
       let c = entry-correction in
       let u = entry-uncertainty in
       let e = abs-mul (pos share) correction in
-      record { shares-small = omega arith; corrections-small = omega arith; uncertainties-small = omega arith }
+      record {
+        shares-small = omega arith;
+        corrections-small = omega arith;
+        uncertainties-small = omega arith;
+      }

@@ -1,5 +1,3 @@
 pub mod Blending
 pub mod Answer
-pub mod Window
-pub mod Portion
-pub mod Valuing
+pub mod Inner

@@ -4,12 +4,13 @@ ghost use Prim.Native.Nat.{ℕ, _+_, _*_, _-_, _^_, _≤_, _<_};
 ghost use lib.ListN.{getD};
 ghost use lib.IntN.{natAbs};
 ghost use Rattle.sums.specs.Coefficient.{binomial};
-ghost use Rattle.placing.specs.Placing.{weightSum};
+ghost use Rattle.placing.specs.Inner.Ranking.{weightSum};
 ghost use Rattle.placing.specs.Place.{scale, limit};
 ghost use Rattle.point.specs.Answer.{numberAt};
-ghost use Rattle.point.specs.Window.{Small};
-ghost use Rattle.point.specs.Portion.{addParts, weighed, factor, blended, linePortion, sheetPortion, wholePortion};
-ghost use Rattle.point.specs.Valuing.{LineFits, SheetFits, WholeFits, listSums, Swept, Scaled};
+ghost use Rattle.point.specs.Inner.Window.{Small};
+ghost use Rattle.point.specs.Inner.Portion.{addParts, weighed, factor, blended};
+ghost use Rattle.point.specs.Inner.Portion.{linePortion, sheetPortion, wholePortion};
+ghost use Rattle.point.specs.Inner.Valuing.{LineFits, SheetFits, WholeFits, listSums, Swept, Scaled};
 use crate::frame::Frame;
 use crate::window::Sums;
 use crate::window::window_sums;
@@ -63,7 +64,8 @@ fn powers(base: u64, m: usize) -> [u64; 10]
 
 // w × C(n, k) × x^(n−k), from the powers of x.
 fn weight(w: u64, n: usize, k: usize, x: &[u64; 10]) -> u64
-    requires { ⌜ (k ≤ n) × (n ≤ 9) × (factor (numberAt (now x)) n k ≤ limit) × (w * factor (numberAt (now x)) n k ≤ limit) ⌝ }
+    requires { ⌜ (k ≤ n) × (n ≤ 9) × (factor (numberAt (now x)) n k ≤ limit)
+        × (w * factor (numberAt (now x)) n k ≤ limit) ⌝ }
     ensures { λ r. ⌜ r ≡ w * factor (numberAt (now (x .entry))) n k ⌝ }
 {
     w * (binomial_of(n, k) * x[n - k])
@@ -71,7 +73,8 @@ fn weight(w: u64, n: usize, k: usize, x: &[u64; 10]) -> u64
 
 // The blended numbers times a weight.
 fn term(s: Sums, w: u64) -> Part
-    requires { ⌜ Small 4096 s × (natAbs (s .corrections) * w < 2 ^ 63) × (w < 2 ^ 63) × (s .uncertainties * w < 2 ^ 64) ⌝ }
+    requires { ⌜ Small 4096 s × (natAbs (s .corrections) * w < 2 ^ 63) × (w < 2 ^ 63)
+        × (s .uncertainties * w < 2 ^ 64) ⌝ }
     ensures { λ r. ⌜ r ≡ weighed s w ⌝ }
 {
     Part {
@@ -81,7 +84,8 @@ fn term(s: Sums, w: u64) -> Part
 }
 
 fn joined(s: Part, t: Part) -> Part
-    requires { ⌜ (natAbs (s .numerator) + natAbs (t .numerator) < 2 ^ 63) × (s .uncertainty + t .uncertainty < 2 ^ 64) ⌝ }
+    requires { ⌜ (natAbs (s .numerator) + natAbs (t .numerator) < 2 ^ 63)
+        × (s .uncertainty + t .uncertainty < 2 ^ 64) ⌝ }
     ensures { λ r. ⌜ r ≡ addParts s t ⌝ }
 {
     Part {
@@ -102,8 +106,11 @@ fn line(
     a1: usize,
     a2: usize,
 ) -> Blended
-    requires { ⌜ Swept (now net) (now corrections) (now uncertainties) f × LineFits (f .full) (numberAt (now x2)) (numberAt (now x3)) w a2 × (a2 ≤ a1) × (a1 ≤ f .m) ⌝ }
-    ensures { λ r. ⌜ r ≡ blended (linePortion f (listSums (now (net .entry)) (now (corrections .entry)) (now (uncertainties .entry)) f) (numberAt (now (x2 .entry))) (numberAt (now (x3 .entry))) w a1 a2) ⌝ }
+    requires { ⌜ Swept (now net) (now corrections) (now uncertainties) f
+        × LineFits (f .full) (numberAt (now x2)) (numberAt (now x3)) w a2 × (a2 ≤ a1) × (a1 ≤ f .m) ⌝ }
+    ensures { λ r. ⌜ r ≡ blended (linePortion f
+        (listSums (now (net .entry)) (now (corrections .entry)) (now (uncertainties .entry)) f)
+        (numberAt (now (x2 .entry))) (numberAt (now (x3 .entry))) w a1 a2) ⌝ }
 {
     let at = f.s1 * a1 + f.s2 * a2;
     let step = f.s3;
@@ -137,8 +144,12 @@ fn sheet(
     w: u64,
     a1: usize,
 ) -> Blended
-    requires { ⌜ Swept (now net) (now corrections) (now uncertainties) f × SheetFits (f .full) (numberAt (now x1)) (numberAt (now x2)) (numberAt (now x3)) w a1 × (a1 ≤ f .m) ⌝ }
-    ensures { λ r. ⌜ r ≡ blended (sheetPortion f (listSums (now (net .entry)) (now (corrections .entry)) (now (uncertainties .entry)) f) (numberAt (now (x1 .entry))) (numberAt (now (x2 .entry))) (numberAt (now (x3 .entry))) w a1) ⌝ }
+    requires { ⌜ Swept (now net) (now corrections) (now uncertainties) f
+        × SheetFits (f .full) (numberAt (now x1)) (numberAt (now x2)) (numberAt (now x3)) w a1
+        × (a1 ≤ f .m) ⌝ }
+    ensures { λ r. ⌜ r ≡ blended (sheetPortion f
+        (listSums (now (net .entry)) (now (corrections .entry)) (now (uncertainties .entry)) f)
+        (numberAt (now (x1 .entry))) (numberAt (now (x2 .entry))) (numberAt (now (x3 .entry))) w a1) ⌝ }
 {
     let mut t = Part {
         numerator: 0,
@@ -146,17 +157,8 @@ fn sheet(
     };
     let mut a2 = 0;
     while a2 <= a1 {
-        let b = line(
-            net,
-            corrections,
-            uncertainties,
-            f,
-            x2,
-            x3,
-            weight(w, a1, a2, x1),
-            a1,
-            a2,
-        );
+        let k = weight(w, a1, a2, x1);
+        let b = line(net, corrections, uncertainties, f, x2, x3, k, a1, a2);
         let Blended::Even(s) = b else {
             return Blended::Uneven;
         };
@@ -177,8 +179,13 @@ fn whole(
     x2: &[u64; 10],
     x3: &[u64; 10],
 ) -> Blended
-    requires { ⌜ Swept (now net) (now corrections) (now uncertainties) f × WholeFits (f .full) (numberAt (now x0)) (numberAt (now x1)) (numberAt (now x2)) (numberAt (now x3)) (f .m) ⌝ }
-    ensures { λ r. ⌜ r ≡ blended (wholePortion f (listSums (now (net .entry)) (now (corrections .entry)) (now (uncertainties .entry)) f) (numberAt (now (x0 .entry))) (numberAt (now (x1 .entry))) (numberAt (now (x2 .entry))) (numberAt (now (x3 .entry)))) ⌝ }
+    requires { ⌜ Swept (now net) (now corrections) (now uncertainties) f
+        × WholeFits (f .full) (numberAt (now x0)) (numberAt (now x1)) (numberAt (now x2)) (numberAt (now x3))
+        (f .m) ⌝ }
+    ensures { λ r. ⌜ r ≡ blended (wholePortion f
+        (listSums (now (net .entry)) (now (corrections .entry)) (now (uncertainties .entry)) f)
+        (numberAt (now (x0 .entry))) (numberAt (now (x1 .entry)))
+        (numberAt (now (x2 .entry))) (numberAt (now (x3 .entry)))) ⌝ }
 {
     let m = f.m;
     let mut t = Part {
@@ -187,17 +194,8 @@ fn whole(
     };
     let mut a1 = 0;
     while a1 <= m {
-        let b = sheet(
-            net,
-            corrections,
-            uncertainties,
-            f,
-            x1,
-            x2,
-            x3,
-            weight(1, m, a1, x0),
-            a1,
-        );
+        let k = weight(1, m, a1, x0);
+        let b = sheet(net, corrections, uncertainties, f, x1, x2, x3, k, a1);
         let Blended::Even(s) = b else {
             return Blended::Uneven;
         };
@@ -216,7 +214,9 @@ pub(crate) fn bernstein_sums(
     q: Placing,
 ) -> Blended
     requires { ⌜ Swept (now net) (now corrections) (now uncertainties) f × Scaled f q ⌝ }
-    ensures { λ r. ⌜ r ≡ blended (wholePortion f (listSums (now (net .entry)) (now (corrections .entry)) (now (uncertainties .entry)) f) (λ i. q .l0 ^ i) (λ i. q .l1 ^ i) (λ i. q .l2 ^ i) (λ i. q .l3 ^ i)) ⌝ }
+    ensures { λ r. ⌜ r ≡ blended (wholePortion f
+        (listSums (now (net .entry)) (now (corrections .entry)) (now (uncertainties .entry)) f)
+        (λ i. q .l0 ^ i) (λ i. q .l1 ^ i) (λ i. q .l2 ^ i) (λ i. q .l3 ^ i)) ⌝ }
 {
     let m = f.m;
     let x0 = powers(q.l0 as u64, m);

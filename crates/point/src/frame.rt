@@ -4,7 +4,7 @@ ghost use mathlib.Core.Bool.{true};
 ghost use Prim.Native.Nat.{_+_, _≤_};
 ghost use Rattle.sums.specs.Coefficient.{factorial};
 ghost use Rattle.unit.specs.Unit.{hasNet};
-ghost use Rattle.point.specs.Window.{stepOn, frameOf};
+ghost use Rattle.point.specs.Inner.Window.{stepOn, frameOf};
 use placing::Placing;
 use shape::Counts;
 use unit::Unit;

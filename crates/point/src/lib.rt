@@ -3,9 +3,11 @@
 ghost use mathlib.Core.Path.{_≡_};
 ghost use lib.ListN.{length};
 ghost use Rattle.unit.specs.Unit.{netOf};
-ghost use Rattle.placing.specs.Placing.{sizes, weightSum};
-ghost use Rattle.point.specs.Answer.{refusedPoint, lentChecks, numberAt, correctionAt, uncertaintyAt, valueAnswer, pointAnswer};
-ghost use Rattle.point.specs.Valuing.{Fit};
+ghost use Rattle.placing.specs.Placing.{sizes};
+ghost use Rattle.placing.specs.Inner.Ranking.{weightSum};
+ghost use Rattle.point.specs.Answer.{lentChecks, numberAt, correctionAt, uncertaintyAt};
+ghost use Rattle.point.specs.Answer.{valueAnswer, pointAnswer};
+ghost use Rattle.point.specs.Inner.Valuing.{Fit, refusedPoint};
 use crate::bernstein::Blended;
 use crate::window::Gap;
 use placing::Placing;
@@ -50,13 +52,7 @@ fn check_lent(unit: Unit, net: usize, corrections: usize, uncertainties: usize) 
         return Checked::stop(4, 0);
     }
     let n = shape::entries_of(unit.n1, unit.n2, unit.n3);
-    if corrections < n {
-        return Checked::stop(9, 0);
-    }
-    if uncertainties < n {
-        return Checked::stop(9, 0);
-    }
-    Checked::Passed
+    unit::check_block_room(n, corrections, uncertainties)
 }
 
 // The value at a placing: the gaps of its window first, then share sums, blended numbers and their
@@ -69,7 +65,9 @@ fn value(
     q: Placing,
 ) -> PointAnswer
     requires { ⌜ Fit unit (length (now net)) (length (now corrections)) (length (now uncertainties)) q ⌝ }
-    ensures { λ r. ⌜ r ≡ valueAnswer (netOf unit) (sizes unit) (numberAt (now (net .entry))) (correctionAt (sizes unit) (now (corrections .entry))) (uncertaintyAt (sizes unit) (now (uncertainties .entry))) q (weightSum q) ⌝ }
+    ensures { λ r. ⌜ r ≡ valueAnswer (netOf unit) (sizes unit) (numberAt (now (net .entry)))
+        (correctionAt (sizes unit) (now (corrections .entry)))
+        (uncertaintyAt (sizes unit) (now (uncertainties .entry))) q (weightSum q) ⌝ }
 {
     let f = frame::framed(unit, q);
     let gap = window::gap_in_window(corrections, f);
@@ -99,7 +97,8 @@ pub fn answer(
     z: u32,
     divisor: u32,
 ) -> PointAnswer
-    ensures { λ r. ⌜ r ≡ pointAnswer unit (now (net .entry)) (now (corrections .entry)) (now (uncertainties .entry)) x y z divisor ⌝ }
+    ensures { λ r. ⌜ r ≡ pointAnswer unit (now (net .entry)) (now (corrections .entry))
+        (now (uncertainties .entry)) x y z divisor ⌝ }
 {
     if let Checked::Stopped(refusal) = check_lent(
         unit,

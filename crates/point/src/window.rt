@@ -6,7 +6,10 @@ ghost use lib.ListN.{length};
 ghost use lib.IntN.{natAbs};
 ghost use Rattle.point.specs.Blending.{isGap};
 ghost use Rattle.point.specs.Answer.{numberAt, signedAt};
-ghost use Rattle.point.specs.Window.{entrySums, addSums, Small, rowSums, planeSums, windowSums, InRow, InPlane, InWindow, rowGap, planeGap, blockGap, GapsInPlane, GapsIn, RowMeasured, PlaneMeasured, BlockMeasured, Searched};
+ghost use Rattle.point.specs.Inner.Window.{entrySums, addSums, Small, rowSums, planeSums, windowSums};
+ghost use Rattle.point.specs.Inner.Window.{InRow, InPlane, InWindow};
+ghost use Rattle.point.specs.Inner.Window.{rowGap, planeGap, blockGap, GapsInPlane, GapsIn};
+ghost use Rattle.point.specs.Inner.Window.{RowMeasured, PlaneMeasured, BlockMeasured, Searched};
 use crate::frame::Frame;
 
 // Over the entries of the window: the shares, and the shares times the corrections and times the
@@ -56,8 +59,10 @@ fn row_sums(
     at: usize,
     entry: usize,
 ) -> Sums
-    requires { ⌜ InRow (length (now net)) (length (now corrections)) (length (now uncertainties)) m count at entry × Small 4080 from ⌝ }
-    ensures { λ r. ⌜ r ≡ addSums from (rowSums (numberAt (now (net .entry))) (signedAt (now (corrections .entry))) (numberAt (now (uncertainties .entry))) m count at entry) ⌝ }
+    requires { ⌜ InRow (length (now net)) (length (now corrections)) (length (now uncertainties))
+        m count at entry × Small 4080 from ⌝ }
+    ensures { λ r. ⌜ r ≡ addSums from (rowSums (numberAt (now (net .entry)))
+        (signedAt (now (corrections .entry))) (numberAt (now (uncertainties .entry))) m count at entry) ⌝ }
     ensures { λ r. ⌜ ((n : ℕ) → Small n from → Small (n + 16) r) ⌝ }
 {
     let mut t = from;
@@ -86,8 +91,10 @@ fn plane_sums(
     at: usize,
     y: usize,
 ) -> Sums
-    requires { ⌜ InPlane (length (now net)) (length (now corrections)) (length (now uncertainties)) f at y × Small 3840 from ⌝ }
-    ensures { λ r. ⌜ r ≡ addSums from (planeSums (numberAt (now (net .entry))) (signedAt (now (corrections .entry))) (numberAt (now (uncertainties .entry))) f at y) ⌝ }
+    requires { ⌜ InPlane (length (now net)) (length (now corrections)) (length (now uncertainties)) f at y
+        × Small 3840 from ⌝ }
+    ensures { λ r. ⌜ r ≡ addSums from (planeSums (numberAt (now (net .entry)))
+        (signedAt (now (corrections .entry))) (numberAt (now (uncertainties .entry))) f at y) ⌝ }
     ensures { λ r. ⌜ ((n : ℕ) → Small n from → Small (n + 256) r) ⌝ }
 {
     let m = f.m;
@@ -124,7 +131,8 @@ pub(crate) fn window_sums(
     at: usize,
 ) -> Sums
     requires { ⌜ InWindow (length (now net)) (length (now corrections)) (length (now uncertainties)) f at ⌝ }
-    ensures { λ r. ⌜ (r ≡ windowSums (numberAt (now (net .entry))) (signedAt (now (corrections .entry))) (numberAt (now (uncertainties .entry))) f at) × Small 4096 r ⌝ }
+    ensures { λ r. ⌜ (r ≡ windowSums (numberAt (now (net .entry))) (signedAt (now (corrections .entry)))
+        (numberAt (now (uncertainties .entry))) f at) × Small 4096 r ⌝ }
 {
     let step = f.m * (f.w1 * f.w2);
     let planes = f.e3;
@@ -160,7 +168,8 @@ fn is_gap(correction: i16) -> bool
 
 fn gap_in_row(corrections: &[i16], from: usize, count: usize) -> Gap
     requires { ⌜ from + count ≤ length (now corrections) ⌝ }
-    ensures { λ r. ⌜ Searched (rowGap (signedAt (now (corrections .entry))) count from) (RowMeasured (signedAt (now (corrections .entry))) count from) r ⌝ }
+    ensures { λ r. ⌜ Searched (rowGap (signedAt (now (corrections .entry))) count from)
+        (RowMeasured (signedAt (now (corrections .entry))) count from) r ⌝ }
 {
     let mut i = 0;
     while i < count {
@@ -174,7 +183,8 @@ fn gap_in_row(corrections: &[i16], from: usize, count: usize) -> Gap
 
 fn gap_in_plane(corrections: &[i16], f: Frame, y: usize) -> Gap
     requires { ⌜ GapsInPlane (length (now corrections)) f y ⌝ }
-    ensures { λ r. ⌜ Searched (planeGap (signedAt (now (corrections .entry))) f y) (PlaneMeasured (signedAt (now (corrections .entry))) f y) r ⌝ }
+    ensures { λ r. ⌜ Searched (planeGap (signedAt (now (corrections .entry))) f y)
+        (PlaneMeasured (signedAt (now (corrections .entry))) f y) r ⌝ }
 {
     let count = f.e1;
     let rows = f.e2;
@@ -195,7 +205,8 @@ fn gap_in_plane(corrections: &[i16], f: Frame, y: usize) -> Gap
 // The first gap of the window, in the order of the block's index.
 pub(crate) fn gap_in_window(corrections: &[i16], f: Frame) -> Gap
     requires { ⌜ GapsIn (length (now corrections)) f ⌝ }
-    ensures { λ r. ⌜ Searched (blockGap (signedAt (now (corrections .entry))) f) (BlockMeasured (signedAt (now (corrections .entry))) f) r ⌝ }
+    ensures { λ r. ⌜ Searched (blockGap (signedAt (now (corrections .entry))) f)
+        (BlockMeasured (signedAt (now (corrections .entry))) f) r ⌝ }
 {
     let planes = f.e3;
     let n2 = f.n2;

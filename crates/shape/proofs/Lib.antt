@@ -1,1 +1,3 @@
 pub mod Shapes
+pub mod Directions
+pub mod Rows

@@ -1,11 +1,13 @@
 // What multiplicities fix: the degree of a net and the box that it fills, for any four of them. What sizes
-// fix: the number of a block's entries.
+// fix: the number of a block's entries. What directions are: their vectors.
 ghost use mathlib.Core.Path.{_≡_};
 ghost use Prim.Native.Nat.{_+_, _*_, _≤_};
 ghost use Rattle.spline.specs.Multiplicities.{degree};
 ghost use Rattle.spline.specs.Box.{places, width};
 ghost use Rattle.unit.specs.Unit.{netOf};
-ghost use Rattle.shape.specs.Shape.{counted, shapeOf};
+ghost use Rattle.spline.specs.Build.{direction};
+ghost use Rattle.shape.specs.Shape.{boxed, counted, heldIn, shapeOf, sideAllowed};
+ghost use Rattle.shape.specs.Direction.{vectorOf};
 use unit::Unit;
 
 // Four multiplicities.
@@ -24,6 +26,13 @@ pub struct Shape {
     pub w3: usize,
 }
 
+// The vector of a direction.
+pub struct Vector {
+    pub x: usize,
+    pub y: usize,
+    pub z: usize,
+}
+
 impl Counts {
     // Those of a unit's net.
     pub fn of_unit(unit: Unit) -> Self
@@ -38,7 +47,8 @@ impl Counts {
     }
 }
 
-// m, which is 0 for multiplicities that add up to less than 3. The bounds here and below are those of four bytes.
+// m, which is 0 for multiplicities that add up to less than 3. The bounds here and below are those of
+// four bytes.
 pub fn degree_of(c: Counts) -> usize
     ensures { λ r. ⌜ (r ≡ degree (counted c)) × (r ≤ 1017) ⌝ }
 {
@@ -58,7 +68,8 @@ fn width_of(m: usize, v: u8, v4: u8) -> usize
 }
 
 pub fn shape_of(c: Counts) -> Shape
-    ensures { λ r. ⌜ (r ≡ shapeOf (counted c)) × (r .w1 ≤ 518671) × (r .w2 ≤ 518671) × (r .w3 ≤ 518671) ⌝ }
+    ensures { λ r. ⌜ r ≡ shapeOf (counted c) ⌝ }
+    ensures { λ r. ⌜ (r .w1 ≤ 518671) × (r .w2 ≤ 518671) × (r .w3 ≤ 518671) ⌝ }
 {
     let m = degree_of(c);
     Shape {
@@ -73,8 +84,62 @@ pub fn shape_of(c: Counts) -> Shape
 pub fn places_of(c: Counts) -> usize
     ensures { λ r. ⌜ r ≡ places (width (counted c)) ⌝ }
 {
-    let s = shape_of(c);
-    s.w1 * s.w2 * s.w3
+    let box_of = shape_of(c);
+    box_of.w1 * box_of.w2 * box_of.w3
+}
+
+// The most places of a box on an axis.
+const SIDE: usize = 91;
+
+fn side_allowed(w: usize) -> bool
+    ensures { λ r. ⌜ r ≡ sideAllowed w ⌝ }
+{
+    if w == 0 {
+        return false;
+    }
+    w <= SIDE
+}
+
+// Whether a degree and widths are within the limits.
+fn is_boxed(s: Shape) -> bool
+    ensures { λ r. ⌜ r ≡ boxed s ⌝ }
+{
+    if (Unit::DEGREE as usize) < s.m {
+        return false;
+    }
+    if !side_allowed(s.w1) {
+        return false;
+    }
+    if !side_allowed(s.w2) {
+        return false;
+    }
+    side_allowed(s.w3)
+}
+
+// Whether a slice of n elements holds the box of such a shape.
+pub fn is_held(s: Shape, n: usize) -> bool
+    ensures { λ r. ⌜ r ≡ heldIn s n ⌝ }
+{
+    if !is_boxed(s) {
+        return false;
+    }
+    s.w1 * s.w2 * s.w3 <= n
+}
+
+// Of a byte that is no direction, the vector of direction 4.
+pub fn vector_of(d: u8) -> Vector
+    ensures { λ r. ⌜ r ≡ vectorOf (direction d) ⌝ }
+{
+    if d == 1 {
+        return Vector { x: 1, y: 0, z: 0 };
+    }
+    if d == 2 {
+        return Vector { x: 0, y: 1, z: 0 };
+    }
+    if d == 3 {
+        return Vector { x: 0, y: 0, z: 1 };
+    }
+    Vector { x: 1, y: 1, z: 1 }
 }
 
 // n1×n2×n3.

@@ -1,6 +1,7 @@
 // Program `shares`: lists the net that the order on standard input builds.
 use libc::STDIN_FILENO;
 use libc::STDOUT_FILENO;
+use listing::Typed;
 
 // The next byte of standard input.
 enum Input {
@@ -21,25 +22,21 @@ fn read_byte() -> Input {
     Input::Byte(byte[0])
 }
 
-fn list(typed: &[u8]) {
+fn list(typed: Typed) {
     let mut text = [0u8; listing::ROOM];
-    let n = listing::print(typed, &mut text);
+    let n = typed.print(&mut text);
     if !io::write_all(STDOUT_FILENO, &text[..n]) {
         os::fail(b"standard output");
     }
 }
 
-// Ten bytes decide: an order of nine or more is refused, whatever follows (`ten-decide` of `listing`).
+// Reads on until the input ends or no further byte could change what is printed.
 fn main() {
-    let mut typed = [0u8; 10];
-    let mut n = 0;
-    while n < 10 {
+    let mut typed = Typed::nothing();
+    while typed.wants_more() {
         let input = read_byte();
         match input {
-            Input::Byte(b) => {
-                typed[n] = b;
-                n += 1;
-            }
+            Input::Byte(b) => typed = typed.with_byte(b),
             Input::End => break,
             Input::Failed => {
                 os::fail(b"standard input");
@@ -47,5 +44,5 @@ fn main() {
             }
         }
     }
-    list(&typed[..n]);
+    list(typed);
 }

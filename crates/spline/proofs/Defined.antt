@@ -15,35 +15,46 @@ use Rattle.spline.specs.Multiplicities.{HasRepeat, Multiplicities, degre
 use Rattle.spline.specs.Place.{Direction, Net, Place}
 use Rattle.spline.specs.Rule.{Obeys}
 
+-- it is 0 where a coordinate is not positive
 pub defined-low : (v : Multiplicities) → ZeroLow (defined v)
 unfolding defined
 defined-low v = order-low (definedOrder v)
 
 module _ (v : Multiplicities) (p : Positive v) where
+  -- and from the extents of its box on
   pub defined-high : ZeroHigh (degree v) (extent v) (defined v)
   unfolding defined
-  defined-high = subst (λ (w : Multiplicities). ZeroHigh (degree w) (extent w) (defined v)) (order-of-defined v p) (order-high (definedOrder v))
+  defined-high =
+      subst (λ (w : Multiplicities). ZeroHigh (degree w) (extent w) (defined v)) (order-of-defined v p)
+      (order-high (definedOrder v))
 
   -- no number is above m!
   pub defined-le : (q : Place) → defined v q ≤ factorial (degree v)
   unfolding defined
-  defined-le q = subst (λ (w : Multiplicities). defined v q ≤ factorial (degree w)) (order-of-defined v p) (order-le (definedOrder v) q)
+  defined-le q =
+      subst (λ (w : Multiplicities). defined v q ≤ factorial (degree w)) (order-of-defined v p)
+      (order-le (definedOrder v) q)
 
+  -- its numbers a whole degree apart add up to m!
   pub defined-unity : Unity (degree v) (extent v) (factorial (degree v)) (defined v)
   unfolding defined
   defined-unity =
-      subst (λ (w : Multiplicities). Unity (degree w) (extent w) (factorial (degree w)) (defined v)) (order-of-defined v p)
+      subst (λ (w : Multiplicities). Unity (degree w) (extent w) (factorial (degree w)) (defined v))
+      (order-of-defined v p)
       (order-unity (definedOrder v))
 
   -- in each direction with a repeat the rule holds at every place, with the defined net of one repeat fewer,
   -- and for no other net that is 0 far below
   module _ (d : Direction) (h : HasRepeat d v) where
+    -- the defined net obeys it
     pub defined-obeys : Obeys d (degree (fewer d v)) (defined (fewer d v)) (defined v)
     defined-obeys =
         subst (Obeys d (degree (fewer d v)) (defined (fewer d v))) (sym (defined-fewer d v p h))
         (stepped-obeys d (degree (fewer d v)) (defined (fewer d v)))
 
-    pub defined-only : (C : Net) (N : ℕ) → Vanishes N C → Obeys d (degree (fewer d v)) (defined (fewer d v)) C → C ≡ defined v
+    -- and every such net is the defined one
+    pub defined-only : (C : Net) (N : ℕ) → Vanishes N C → Obeys d (degree (fewer d v)) (defined (fewer d v)) C
+        → C ≡ defined v
     defined-only C N z o =
         only d (degree (fewer d v)) (defined (fewer d v)) C N (defined-low (fewer d v)) o z
         ∙ sym (defined-fewer d v p h)

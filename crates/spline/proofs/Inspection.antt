@@ -12,28 +12,40 @@ use Rattle.spline.proofs.Support.{High, high-mono}
 use Rattle.spline.specs.Box.{netList, places, spread, width}
 use Rattle.spline.specs.Defined.{defined}
 use Rattle.spline.specs.Multiplicities.{HasRepeat, Multiplicities, degree, extent, fewer}
-use Rattle.spline.specs.Place.{Axis, Direction, Place}
+use Rattle.spline.specs.Place.{Axis, Direction, Net, Place}
 use Rattle.spline.specs.Rule.{Obeys}
 
 module _ (v : Multiplicities) (p : Positive v) where
+  abbrev W : Axis → ℕ
+  W = width v
+
   -- a defined net is 0 outside its box
-  pub defined-outside : (q : Place) (b : Axis) → High (width v b) (q b) → defined v q ≡ 0
-  defined-outside q b h = defined-high v p .zeroHigh q b (high-mono (width v b) (degree v * extent v b) (q b) (omega arith) h)
+  pub defined-outside : (q : Place) (b : Axis) → High (W b) (q b) → defined v q ≡ 0
+  defined-outside q b h =
+      defined-high v p .zeroHigh q b (high-mono (W b) (degree v * extent v b) (q b) (omega arith) h)
 
-  module _ (s : List ℕ) (room : places (width v) ≤ length s) where
-    -- the slice's first places are the defined net, and 0 outside the box is all that the net has there
-    pub list-defined : take (places (width v)) s ≡ netList (width v) (defined v) → spread (width v) s ≡ defined v
-    list-defined = spread-list (width v) s (defined v) (defined-low v) defined-outside
+  module _ (s : List ℕ) (room : places W ≤ length s) where
+    -- the slice's first places are the defined net's list
+    abbrev IsDefined : Type 0
+    IsDefined = take (places W) s ≡ netList W (defined v)
 
-    pub defined-list : spread (width v) s ≡ defined v → take (places (width v)) s ≡ netList (width v) (defined v)
-    defined-list e = list-spread (width v) s room ∙ ap (netList (width v)) e
+    -- then, read as a net, it is the defined one, which has only 0 outside the box; and the other way round
+    pub list-defined : IsDefined → spread W s ≡ defined v
+    list-defined = spread-list W s (defined v) (defined-low v) defined-outside
 
-    pub list-obeys : (d : Direction) → HasRepeat d v
-        → (take (places (width v)) s ≡ netList (width v) (defined v)) ↔ Obeys d (degree (fewer d v)) (defined (fewer d v)) (spread (width v) s)
-    list-obeys d h = (to, from)
-      where
-        to : take (places (width v)) s ≡ netList (width v) (defined v) → Obeys d (degree (fewer d v)) (defined (fewer d v)) (spread (width v) s)
-        to e = subst (Obeys d (degree (fewer d v)) (defined (fewer d v))) (sym (list-defined e)) (defined-obeys v p d h)
+    pub defined-list : spread W s ≡ defined v → IsDefined
+    defined-list e = list-spread W s room ∙ ap (netList W) e
 
-        from : Obeys d (degree (fewer d v)) (defined (fewer d v)) (spread (width v) s) → take (places (width v)) s ≡ netList (width v) (defined v)
-        from o = defined-list (defined-only v p d h (spread (width v) s) 0 (spread-vanishes (width v) s) o)
+    module _ (d : Direction) (h : HasRepeat d v) where
+      abbrev ObeysHere : Net → Type 0
+      ObeysHere C = Obeys d (degree (fewer d v)) (defined (fewer d v)) C
+
+      to : IsDefined → ObeysHere (spread W s)
+      to e = subst ObeysHere (sym (list-defined e)) (defined-obeys v p d h)
+
+      from : ObeysHere (spread W s) → IsDefined
+      from o = defined-list (defined-only v p d h (spread W s) 0 (spread-vanishes W s) o)
+
+      -- the slice holds the defined net exactly where it obeys the rule, in a direction with a repeat
+      pub list-obeys : IsDefined ↔ ObeysHere (spread W s)
+      list-obeys = (to, from)

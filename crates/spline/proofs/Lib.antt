@@ -1,6 +1,7 @@
 pub mod Cases
 pub mod Division
 pub mod Steps
+pub mod Coordinates
 pub mod Shifts
 pub mod Lowering
 pub mod Low
@@ -20,4 +21,3 @@ pub mod Defined
 pub mod Shares
 pub mod Box
 pub mod Inspection
-pub mod Figures

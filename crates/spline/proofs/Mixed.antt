@@ -8,8 +8,10 @@ use lib.IntN.{negsuc, pos, predℤ, ℤ}
 use Rattle.spline.proofs.Low.{Low, ZeroLow}
 use Rattle.spline.proofs.Shifts.{⊖-comm}
 use Rattle.spline.proofs.Steps.{⊖⊕}
-use Rattle.spline.specs.Place.{Axis, Direction, Net, Place, _⊕_, _⊖_, a1, a2, a3, along, diagonal, downIf, moves}
+use Rattle.spline.specs.Place.{Axis, Direction, Net, Place, _⊕_, _⊖_, a1, a2, a3}
+use Rattle.spline.specs.Place.{along, diagonal, downIf, moves}
 
+-- ---- the size of a place, which a step back makes smaller
 abbrev nat : ℤ → ℕ
 nat (pos n) = n
 nat (negsuc n) = 0
@@ -30,7 +32,9 @@ down-lt (negsuc n) f = absurd (f tt)
 
 size-le : (d : Direction) (q : Place) → size (q ⊖ d) ≤ size q
 unfolding size
-size-le d q = omega (arith, down-le (moves d a1) (q a1), down-le (moves d a2) (q a2), down-le (moves d a3) (q a3))
+size-le d q =
+    let le : (b : Axis) → nat (downIf (moves d b) (q b)) ≤ nat (q b) = λ b. down-le (moves d b) (q b) in
+    omega (arith, le a1, le a2, le a3)
 
 size-lt : (d : Direction) (q : Place) → ((b : Axis) → ¬ (Low (q b))) → size (q ⊖ d) < size q
 unfolding size
@@ -43,12 +47,15 @@ decLow : (z : ℤ) → Dec (Low z)
 decLow (pos n) = ℕ-discrete n 0
 decLow (negsuc n) = yes tt
 
+-- ---- equal mixed differences
 -- the mixed differences of A and of B are equal, at every place
 unfoldable pub Cross : Direction → Direction → Net → Net → Type 0
-Cross d e A B = (q : Place) → A ((q ⊕ e) ⊕ d) + A q + (B (q ⊕ e) + B (q ⊕ d)) ≡ B ((q ⊕ e) ⊕ d) + B q + (A (q ⊕ e) + A (q ⊕ d))
+Cross d e A B = (q : Place)
+    → A ((q ⊕ e) ⊕ d) + A q + (B (q ⊕ e) + B (q ⊕ d)) ≡ B ((q ⊕ e) ⊕ d) + B q + (A (q ⊕ e) + A (q ⊕ d))
 
 module _ (d e : Direction) (A B : Net) (a : ZeroLow A) (b : ZeroLow B) (x : Cross d e A B) where
-  inside : (n : ℕ) (q : Place) → size q < suc n → ((p : Place) → size p < n → A p ≡ B p) → ((c : Axis) → ¬ (Low (q c))) → A q ≡ B q
+  inside : (n : ℕ) (q : Place) → size q < suc n → ((p : Place) → size p < n → A p ≡ B p)
+      → ((c : Axis) → ¬ (Low (q c))) → A q ≡ B q
   unfolding Cross
   inside n q l rec f =
       let p : Place = (q ⊖ d) ⊖ e in
@@ -72,11 +79,13 @@ module _ (d e : Direction) (A B : Net) (a : ZeroLow A) (b : ZeroLow B) (x : Cros
       all f1 f2 f3 a2 = f2
       all f1 f2 f3 a3 = f3
 
-      go : Dec (Low (q a1)) → Dec (Low (q a2)) → Dec (Low (q a3)) → ((p : Place) → size p < n → A p ≡ B p) → A q ≡ B q
+      go : Dec (Low (q a1)) → Dec (Low (q a2)) → Dec (Low (q a3))
+          → ((p : Place) → size p < n → A p ≡ B p) → A q ≡ B q
       go (yes k) y z rec = out a1 k
       go (no f1) (yes k) z rec = out a2 k
       go (no f1) (no f2) (yes k) rec = out a3 k
       go (no f1) (no f2) (no f3) rec = inside n q l rec (all f1 f2 f3)
 
+  -- then A and B are equal: by induction on the size, since both are 0 where a coordinate is low
   pub mixed-unique : A ≡ B
   mixed-unique = fun-ext (λ q. agree (suc (size q)) q (omega arith))

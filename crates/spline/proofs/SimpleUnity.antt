@@ -11,7 +11,7 @@ use Rattle.spline.proofs.Low.{Low}
 use Rattle.spline.proofs.Support.{High}
 use Rattle.spline.proofs.Unity.{Unity}
 use Rattle.spline.specs.Build.{isOne, simple}
-use Rattle.spline.specs.Place.{a1, a2, a3}
+use Rattle.spline.specs.Place.{Axis, a1, a2, a3}
 
 -- 1 past the place 1, else 0
 abbrev pastOne : ℤ → ℕ
@@ -27,6 +27,7 @@ past-suc (pos (suc (suc n))) = refl
 past-suc (negsuc zero) = refl
 past-suc (negsuc (suc n)) = refl
 
+-- ---- along a line: the place 1 is passed once
 line : (z : ℤ) (n : ℕ) → pastOne z + sumTo n (λ i. isOne (z +ℤ pos i)) ≡ pastOne (z +ℤ pos n)
 unfolding sumTo
 line z zero = omega (arith, ap pastOne (+ℤ-idr z))
@@ -43,16 +44,19 @@ past-high (pos zero) l = omega arith
 past-high (pos (suc zero)) l = omega arith
 past-high (pos (suc (suc n))) l = refl
 
-line-one : (z : ℤ) (n : ℕ) → Low z → High 2 (z +ℤ pos (1 * n)) → sumTo n (λ i. isOne (z +ℤ pos (1 * i))) ≡ 1
+line-one : (z : ℤ) (n : ℕ) → Low z → High 2 (z +ℤ pos (1 * n))
+    → sumTo n (λ i. isOne (z +ℤ pos (1 * i))) ≡ 1
 line-one z n l h =
     let k : High 2 (z +ℤ pos n) = subst (λ (j : ℕ). High 2 (z +ℤ pos j)) (one-mul n) h in
     ap (sumTo n) (fun-ext (λ (i : ℕ). ap (λ (j : ℕ). isOne (z +ℤ pos j)) (one-mul i)))
     ∙ omega (arith, line z n, past-low z l, past-high (z +ℤ pos n) k)
 
+-- ---- over a box: the product of three lines
 pub simple-unity : Unity 1 (λ b. 2) (factorial 1) simple
 unfolding simple factorial
 simple-unity = record {
   adds-up = λ q n l h.
-      sumBox-product (n a1) (n a2) (n a3) (λ i. isOne (q a1 +ℤ pos (1 * i))) (λ i. isOne (q a2 +ℤ pos (1 * i))) (λ i. isOne (q a3 +ℤ pos (1 * i)))
-      ∙ rw (line-one (q a1) (n a1) (l a1) (h a1), line-one (q a2) (n a2) (l a2) (h a2), line-one (q a3) (n a3) (l a3) (h a3));
+      let term : Axis → ℕ → ℕ = λ b i. isOne (q b +ℤ pos (1 * i)) in
+      let one : (b : Axis) → sumTo (n b) (term b) ≡ 1 = λ b. line-one (q b) (n b) (l b) (h b) in
+      sumBox-product (n a1) (n a2) (n a3) (term a1) (term a2) (term a3) ∙ rw (one a1, one a2, one a3);
 }

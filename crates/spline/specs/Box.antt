@@ -36,4 +36,7 @@ inBox w (negsuc n) f = 0
 
 -- a list read as a net: "C is these numbers, and 0 outside the box"
 unfoldable pub spread : (Axis → ℕ) → List ℕ → Net
-spread W s q = inBox (W a1) (q a1) (λ x. inBox (W a2) (q a2) (λ y. inBox (W a3) (q a3) (λ z. getD s (index W x y z) 0)))
+spread W s q =
+    inBox (W a1) (q a1) (λ x.
+    inBox (W a2) (q a2) (λ y.
+    inBox (W a3) (q a3) (λ z. getD s (index W x y z) 0)))

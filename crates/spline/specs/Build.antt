@@ -27,14 +27,14 @@ abbrev pub loweredPlace : Direction → ℕ → Place → Place
 loweredPlace d g q = composed g (cell (suc g) q) (lowered d (remainder (suc g) q))
 
 -- F(q−d) + F(q−2d) + .. + F(q−nd)
-unfoldable pub window : Direction → Net → ℕ → Net
-window d F zero q = 0
-window d F (suc n) q = F (q ⊖ d) + window d F n (q ⊖ d)
+unfoldable pub sumBack : Direction → Net → ℕ → Net
+sumBack d F zero q = 0
+sumBack d F (suc n) q = F (q ⊖ d) + sumBack d F n (q ⊖ d)
 
 -- The rule solved for C: G(L(q−d)) + .. + G(L(q−md)). That it obeys the rule, and that no other net which is
 -- 0 far outside does, are laws.
 unfoldable pub stepped : Direction → ℕ → Net → Net
-stepped d g G = window d (λ p. G (loweredPlace d g p)) (suc g)
+stepped d g G = sumBack d (λ p. G (loweredPlace d g p)) (suc g)
 
 -- the end of the chain that `Follows` speaks of
 unfoldable pub built : List Direction → ℕ → Net → Net

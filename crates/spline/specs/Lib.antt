@@ -4,4 +4,4 @@ pub mod Build
 pub mod Multiplicities
 pub mod Defined
 pub mod Box
-pub mod Figures
+pub mod Inner

@@ -23,7 +23,9 @@ multiplicity diagonal v = v .v4
 
 -- "v1 to v4 are each at least 1; their sum is at most 12"
 unfoldable pub allowed : Multiplicities → Bool
-allowed v = leb 1 (v .v1) && leb 1 (v .v2) && leb 1 (v .v3) && leb 1 (v .v4) && leb (v .v1 + v .v2 + v .v3 + v .v4) 12
+allowed v =
+    leb 1 (v .v1) && leb 1 (v .v2) && leb 1 (v .v3) && leb 1 (v .v4)
+    && leb (v .v1 + v .v2 + v .v3 + v .v4) 12
 
 -- "The degree is m = v1+v2+v3+v4−3"
 abbrev pub degree : Multiplicities → ℕ

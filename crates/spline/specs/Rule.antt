@@ -4,7 +4,8 @@ use mathlib.Core.Bool.{cond}
 use Prim.Native.Nat.{ℕ, suc, _-_, _≤_}
 use lib.Dec.{ltb}
 use lib.IntN.{ℤ, pos, negsuc, _-ℤ_}
-use Rattle.spline.specs.Place.{Axis, Direction, along, diagonal, Place, Net, _⊕_, _⊖_, floorDiv, floorMod, compose}
+use Rattle.spline.specs.Place.{Axis, Direction, along, diagonal, Place, Net, _⊕_, _⊖_}
+use Rattle.spline.specs.Place.{floorDiv, floorMod, compose}
 
 -- u, "less 1 exactly where u on axis b is strictly greater than u on axis d"
 unfoldable pub lowerAbove : ℕ → ℕ → ℕ
@@ -30,7 +31,8 @@ composed g k w = λ b. compose g (k b) (w b)
 -- "G((m−1)×k + w) − G((m−1)×(k−d) + w)", the rule's right side at q, for G of degree g = m−1
 abbrev pub ruleRight : Direction → ℕ → Net → Place → ℤ
 ruleRight d g G q =
-    pos (G (composed g (cell (suc g) q) (lowered d (remainder (suc g) q)))) -ℤ pos (G (composed g (cell (suc g) q ⊖ d) (lowered d (remainder (suc g) q))))
+    pos (G (composed g (cell (suc g) q) (lowered d (remainder (suc g) q))))
+    -ℤ pos (G (composed g (cell (suc g) q ⊖ d) (lowered d (remainder (suc g) q))))
 
 -- "The rule: C(q+d) − C(q) = G((m−1)×k + w) − G((m−1)×(k−d) + w)." G has the degree g = m−1, C the degree m.
 pub record Obeys (d : Direction) (g : ℕ) (G C : Net) : Type 0 where

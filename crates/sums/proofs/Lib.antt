@@ -7,3 +7,4 @@ pub mod MachineSizes
 pub mod Coefficient
 pub mod Multinomial
 pub mod Places
+pub mod Words

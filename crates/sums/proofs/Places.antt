@@ -1,40 +1,58 @@
 -- Indices x + w1 (y + w2 z) of the places of a box, and the places back from them.
 use mathlib.Core.Path.{_≡_, ap, _∙_}
 use Prim.Native.Nat.{ℕ, zero, suc, _+_, _*_, _/_, _%_, _≤_, _<_}
-use native.Mathlib.Nat.{mul-le-mul, mul-le-mul-left, mod-lt, mod-add-div, add-mul-mod-self-left, add-mul-div-left, mod-eq-of-lt, div-eq-of-lt, div-lt-iff-lt-mul, zero-add}
+use native.Mathlib.Nat.{mul-le-mul, mul-le-mul-left, mod-lt, mod-add-div, mod-eq-of-lt, zero-add}
+use native.Mathlib.Nat.{add-mul-mod-self-left, add-mul-div-left, div-eq-of-lt, div-lt-iff-lt-mul}
 use native.Mathlib.Omega.{arith}
 
--- a place of a sheet, and of a box, has its index within it
+-- a place of a sheet has its index within it
 pub sheet-index-in : (w n x y : ℕ) → x < w → y < n → x + w * y < w * n
 sheet-index-in w n x y hx hy = let p : w * suc y ≤ w * n = mul-le-mul-left w hy in omega arith
 
+-- so has a place of a box
 pub index-in : (w1 w2 w3 x y z : ℕ) → x < w1 → y < w2 → z < w3 → x + w1 * (y + w2 * z) < w1 * w2 * w3
-index-in w1 w2 w3 x y z hx hy hz = omega (arith, sheet-index-in w1 (w2 * w3) x (y + w2 * z) hx (sheet-index-in w2 w3 y z hy hz))
+index-in w1 w2 w3 x y z hx hy hz =
+    let row : y + w2 * z < w2 * w3 = sheet-index-in w2 w3 y z hy hz in
+    omega (arith, sheet-index-in w1 (w2 * w3) x (y + w2 * z) hx row)
 
 -- a box within a box
 pub box-le : {w1 w2 w3 n1 n2 n3 : ℕ} → w1 ≤ n1 → w2 ≤ n2 → w3 ≤ n3 → w1 * w2 * w3 ≤ n1 * n2 * n3
 box-le h1 h2 h3 = mul-le-mul (mul-le-mul h1 h2) h3
 
--- the index past a row, and past a layer
+-- the index past a row is the next row's first
 pub next-row : (w1 w2 y z : ℕ) → w1 + w1 * (y + w2 * z) ≡ w1 * (y + 1 + w2 * z)
 next-row w1 w2 y z = omega arith
 
+-- and past a layer the next layer's
 pub next-layer : (w1 w2 z : ℕ) → w1 * (w2 + w2 * z) ≡ w1 * (w2 * (z + 1))
 next-layer w1 w2 z = omega arith
 
 -- the place of an index
 module _ (w1 w2 x y z : ℕ) (hx : x < w1) (hy : y < w2) where
   row : (x + w1 * (y + w2 * z)) / w1 ≡ y + w2 * z
-  row = add-mul-div-left x (y + w2 * z) (omega arith) ∙ ap (λ (k : ℕ). k + (y + w2 * z)) (div-eq-of-lt hx) ∙ zero-add (y + w2 * z)
+  row =
+      add-mul-div-left x (y + w2 * z) (omega arith)
+      ∙ ap (λ (k : ℕ). k + (y + w2 * z)) (div-eq-of-lt hx)
+      ∙ zero-add (y + w2 * z)
 
+  -- its x
   pub place-x : (x + w1 * (y + w2 * z)) % w1 ≡ x
   place-x = add-mul-mod-self-left x w1 (y + w2 * z) ∙ mod-eq-of-lt hx
 
+  -- its y
   pub place-y : (x + w1 * (y + w2 * z)) / w1 % w2 ≡ y
-  place-y = ap (λ (k : ℕ). k % w2) row ∙ add-mul-mod-self-left y w2 z ∙ mod-eq-of-lt hy
+  place-y =
+      ap (λ (k : ℕ). k % w2) row
+      ∙ add-mul-mod-self-left y w2 z
+      ∙ mod-eq-of-lt hy
 
+  -- its z
   pub place-z : (x + w1 * (y + w2 * z)) / w1 / w2 ≡ z
-  place-z = ap (λ (k : ℕ). k / w2) row ∙ add-mul-div-left y z (omega arith) ∙ ap (λ (k : ℕ). k + z) (div-eq-of-lt hy) ∙ zero-add z
+  place-z =
+      ap (λ (k : ℕ). k / w2) row
+      ∙ add-mul-div-left y z (omega arith)
+      ∙ ap (λ (k : ℕ). k + z) (div-eq-of-lt hy)
+      ∙ zero-add z
 
 -- an index is that of its place
 pub index-back : (w1 w2 i : ℕ) → i % w1 + w1 * (i / w1 % w2 + w2 * (i / w1 / w2)) ≡ i

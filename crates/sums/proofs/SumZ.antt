@@ -6,9 +6,11 @@ use native.Mathlib.Numerals.{add-one}
 use native.Mathlib.Omega.{arith}
 use lib.IntN.{ℤ, pos, _+ℤ_, _*ℤ_, natAbs, +ℤ-idr, +ℤ-idl, +ℤ-assoc, *ℤ-zero, *ℤ-comm, zero-*ℤ, sucℤ-*ℤ}
 use Rattle.sums.specs.Sum.{sumTo, sumZ, sumBox, sumBoxZ}
-use Rattle.sums.proofs.Sum.{sum-mul, sumBox-mul}
+use Rattle.sums.proofs.Sum.{Inside, sum-mul, sumBox-mul}
 use Rattle.sums.proofs.Signed.{Is, is-pos, is-add, +ℤ-swap, *ℤ-+ℤ, +ℤ-*ℤ, abs-add, abs-mul}
 
+-- ---- sums up to n
+-- no terms, and one term more
 pub sumZ-zero : (f : ℕ → ℤ) → sumZ 0 f ≡ pos 0
 unfolding sumZ
 sumZ-zero f = refl
@@ -17,6 +19,7 @@ pub sumZ-suc : (n : ℕ) (f : ℕ → ℤ) → sumZ (suc n) f ≡ sumZ n f +ℤ 
 unfolding sumZ
 sumZ-suc n f = refl
 
+-- one term more, as a loop counts
 pub sumZ-next : (n : ℕ) (f : ℕ → ℤ) → sumZ (n + 1) f ≡ sumZ n f +ℤ f n
 sumZ-next n f = rw (add-one n) (sumZ-suc n f)
 
@@ -24,8 +27,10 @@ sumZ-next n f = rw (add-one n) (sumZ-suc n f)
 pub sumZ-cong : (n : ℕ) (f g : ℕ → ℤ) → ((k : ℕ) → k < n → f k ≡ g k) → sumZ n f ≡ sumZ n g
 unfolding sumZ
 sumZ-cong zero f g h = refl
-sumZ-cong (suc n) f g h = ap₂ (λ (a b : ℤ). a +ℤ b) (sumZ-cong n f g (λ k l. h k (omega arith))) (h n (omega arith))
+sumZ-cong (suc n) f g h =
+    ap₂ (λ (a b : ℤ). a +ℤ b) (sumZ-cong n f g (λ k l. h k (omega arith))) (h n (omega arith))
 
+-- a sum of sums
 pub sumZ-add : (n : ℕ) (f g : ℕ → ℤ) → sumZ n (λ k. f k +ℤ g k) ≡ sumZ n f +ℤ sumZ n g
 unfolding sumZ
 sumZ-add zero f g = refl
@@ -42,6 +47,7 @@ unfolding sumZ
 sumZ-mulr zero c f = sym (zero-*ℤ c)
 sumZ-mulr (suc n) c f = rw (sumZ-mulr n c f) (sym (+ℤ-*ℤ (sumZ n f) (f n) c))
 
+-- n terms that are one number
 pub sumZ-const : (n : ℕ) (c : ℤ) → sumZ n (λ k. c) ≡ pos n *ℤ c
 unfolding sumZ
 sumZ-const zero c = sym (zero-*ℤ c)
@@ -60,12 +66,18 @@ sumZ-first (suc n) f = rw (sumZ-first n f) (+ℤ-assoc (f 0) (sumZ n (λ k. f (s
 pub sumZ-split : (a b : ℕ) (f : ℕ → ℤ) → sumZ (a + b) f ≡ sumZ a f +ℤ sumZ b (λ k. f (a + k))
 unfolding sumZ
 sumZ-split a zero f = rw (add-zero a) (sym (+ℤ-idr (sumZ a f)))
-sumZ-split a (suc b) f = rw (add-suc a b, sumZ-split a b f) (+ℤ-assoc (sumZ a f) (sumZ b (λ k. f (a + k))) (f (a + b)))
+sumZ-split a (suc b) f =
+    rw (add-suc a b, sumZ-split a b f)
+    (+ℤ-assoc (sumZ a f) (sumZ b (λ k. f (a + k))) (f (a + b)))
 
-pub sumZ-swap : (n m : ℕ) (f : ℕ → ℕ → ℤ) → sumZ n (λ i. sumZ m (λ j. f i j)) ≡ sumZ m (λ j. sumZ n (λ i. f i j))
+-- rows first or columns first
+pub sumZ-swap : (n m : ℕ) (f : ℕ → ℕ → ℤ)
+    → sumZ n (λ i. sumZ m (λ j. f i j)) ≡ sumZ m (λ j. sumZ n (λ i. f i j))
 unfolding sumZ
 sumZ-swap zero m f = sym (sumZ-nil m)
-sumZ-swap (suc n) m f = ap (λ (x : ℤ). x +ℤ sumZ m (λ j. f n j)) (sumZ-swap n m f) ∙ sym (sumZ-add m (λ j. sumZ n (λ i. f i j)) (λ j. f n j))
+sumZ-swap (suc n) m f =
+    ap (λ (x : ℤ). x +ℤ sumZ m (λ j. f n j)) (sumZ-swap n m f)
+    ∙ sym (sumZ-add m (λ j. sumZ n (λ i. f i j)) (λ j. f n j))
 
 -- a sum of naturals is a natural
 pub sumZ-pos : (n : ℕ) (f : ℕ → ℕ) → sumZ n (λ k. pos (f k)) ≡ pos (sumTo n f)
@@ -74,12 +86,15 @@ sumZ-pos zero f = refl
 sumZ-pos (suc n) f = rw (sumZ-pos n f) refl
 
 -- a sum of differences of naturals is the difference of their sums
-pub sumZ-is : (n : ℕ) (f : ℕ → ℤ) (a b : ℕ → ℕ) → ((k : ℕ) → k < n → Is (f k) (a k) (b k)) → Is (sumZ n f) (sumTo n a) (sumTo n b)
+pub sumZ-is : (n : ℕ) (f : ℕ → ℤ) (a b : ℕ → ℕ) → ((k : ℕ) → k < n → Is (f k) (a k) (b k))
+    → Is (sumZ n f) (sumTo n a) (sumTo n b)
 unfolding sumZ sumTo
 sumZ-is zero f a b h = is-pos 0
 sumZ-is (suc n) f a b h = is-add (sumZ-is n f a b (λ k l. h k (omega arith))) (h n (omega arith))
 
-pub sumZ-abs : (n : ℕ) (f : ℕ → ℤ) (g : ℕ → ℕ) → ((k : ℕ) → k < n → natAbs (f k) ≤ g k) → natAbs (sumZ n f) ≤ sumTo n g
+-- where each term's size is at most g's, the sum's is at most the sum of g
+pub sumZ-abs : (n : ℕ) (f : ℕ → ℤ) (g : ℕ → ℕ) → ((k : ℕ) → k < n → natAbs (f k) ≤ g k)
+    → natAbs (sumZ n f) ≤ sumTo n g
 unfolding sumZ sumTo
 sumZ-abs zero f g h = le-refl 0
 sumZ-abs (suc n) f g h =
@@ -89,19 +104,25 @@ sumZ-abs (suc n) f g h =
     omega arith
 
 -- where each term is at most K times its weight, the sum is at most K times the weights' sum
-pub sumZ-weighed : (n K : ℕ) (f : ℕ → ℤ) (w : ℕ → ℕ) → ((k : ℕ) → k < n → natAbs (f k) ≤ K * w k) → natAbs (sumZ n f) ≤ K * sumTo n w
+pub sumZ-weighed : (n K : ℕ) (f : ℕ → ℤ) (w : ℕ → ℕ) → ((k : ℕ) → k < n → natAbs (f k) ≤ K * w k)
+    → natAbs (sumZ n f) ≤ K * sumTo n w
 sumZ-weighed n K f w h = rw (← sum-mul n K w) (sumZ-abs n f (λ k. K * w k) h)
 
 -- ---- sums over a box
 
 module _ (n1 n2 n3 : ℕ) where
   -- only the places of the box count
-  pub sumBoxZ-cong : (f g : ℕ → ℕ → ℕ → ℤ) → ((i1 i2 i3 : ℕ) → i1 < n1 → i2 < n2 → i3 < n3 → f i1 i2 i3 ≡ g i1 i2 i3) → sumBoxZ n1 n2 n3 f ≡ sumBoxZ n1 n2 n3 g
+  pub sumBoxZ-cong : (f g : ℕ → ℕ → ℕ → ℤ) → Inside n1 n2 n3 (λ i1 i2 i3. f i1 i2 i3 ≡ g i1 i2 i3)
+      → sumBoxZ n1 n2 n3 f ≡ sumBoxZ n1 n2 n3 g
   unfolding sumBoxZ
-  sumBoxZ-cong f g h = sumZ-cong n3 _ _ (λ i3 l3. sumZ-cong n2 _ _ (λ i2 l2. sumZ-cong n1 _ _ (λ i1 l1. h i1 i2 i3 l1 l2 l3)))
+  sumBoxZ-cong f g h =
+      sumZ-cong n3 _ _ (λ i3 l3.
+      sumZ-cong n2 _ _ (λ i2 l2.
+      sumZ-cong n1 _ _ (λ i1 l1. h i1 i2 i3 l1 l2 l3)))
 
-  -- a common factor, on either side
-  pub sumBoxZ-mul : (c : ℤ) (f : ℕ → ℕ → ℕ → ℤ) → sumBoxZ n1 n2 n3 (λ i1 i2 i3. c *ℤ f i1 i2 i3) ≡ c *ℤ sumBoxZ n1 n2 n3 f
+  -- a common factor on the left
+  pub sumBoxZ-mul : (c : ℤ) (f : ℕ → ℕ → ℕ → ℤ)
+      → sumBoxZ n1 n2 n3 (λ i1 i2 i3. c *ℤ f i1 i2 i3) ≡ c *ℤ sumBoxZ n1 n2 n3 f
   unfolding sumBoxZ
   sumBoxZ-mul c f =
       sumZ-cong n3 _ _ (λ i3 l3.
@@ -109,10 +130,17 @@ module _ (n1 n2 n3 : ℕ) where
       ∙ sumZ-mul n2 c (λ i2. sumZ n1 (λ i1. f i1 i2 i3)))
       ∙ sumZ-mul n3 c (λ i3. sumZ n2 (λ i2. sumZ n1 (λ i1. f i1 i2 i3)))
 
-  pub sumBoxZ-mulr : (c : ℤ) (f : ℕ → ℕ → ℕ → ℤ) → sumBoxZ n1 n2 n3 (λ i1 i2 i3. f i1 i2 i3 *ℤ c) ≡ sumBoxZ n1 n2 n3 f *ℤ c
-  sumBoxZ-mulr c f = sumBoxZ-cong _ _ (λ i1 i2 i3 l1 l2 l3. *ℤ-comm (f i1 i2 i3) c) ∙ sumBoxZ-mul c f ∙ *ℤ-comm c (sumBoxZ n1 n2 n3 f)
+  -- a common factor on the right
+  pub sumBoxZ-mulr : (c : ℤ) (f : ℕ → ℕ → ℕ → ℤ)
+      → sumBoxZ n1 n2 n3 (λ i1 i2 i3. f i1 i2 i3 *ℤ c) ≡ sumBoxZ n1 n2 n3 f *ℤ c
+  sumBoxZ-mulr c f =
+      sumBoxZ-cong _ _ (λ i1 i2 i3 l1 l2 l3. *ℤ-comm (f i1 i2 i3) c)
+      ∙ sumBoxZ-mul c f
+      ∙ *ℤ-comm c (sumBoxZ n1 n2 n3 f)
 
-  pub sumBoxZ-pos : (f : ℕ → ℕ → ℕ → ℕ) → sumBoxZ n1 n2 n3 (λ i1 i2 i3. pos (f i1 i2 i3)) ≡ pos (sumBox n1 n2 n3 f)
+  -- a sum of naturals is a natural
+  pub sumBoxZ-pos : (f : ℕ → ℕ → ℕ → ℕ)
+      → sumBoxZ n1 n2 n3 (λ i1 i2 i3. pos (f i1 i2 i3)) ≡ pos (sumBox n1 n2 n3 f)
   unfolding sumBoxZ sumBox
   sumBoxZ-pos f =
       sumZ-cong n3 _ _ (λ i3 l3.
@@ -120,14 +148,21 @@ module _ (n1 n2 n3 : ℕ) where
       ∙ sumZ-pos n2 (λ i2. sumTo n1 (λ i1. f i1 i2 i3)))
       ∙ sumZ-pos n3 (λ i3. sumTo n2 (λ i2. sumTo n1 (λ i1. f i1 i2 i3)))
 
-  pub sumBoxZ-abs : (f : ℕ → ℕ → ℕ → ℤ) (g : ℕ → ℕ → ℕ → ℕ) → ((i1 i2 i3 : ℕ) → i1 < n1 → i2 < n2 → i3 < n3 → natAbs (f i1 i2 i3) ≤ g i1 i2 i3)
+  -- where each term's size is at most g's, the sum's is at most the sum of g
+  pub sumBoxZ-abs : (f : ℕ → ℕ → ℕ → ℤ) (g : ℕ → ℕ → ℕ → ℕ)
+      → Inside n1 n2 n3 (λ i1 i2 i3. natAbs (f i1 i2 i3) ≤ g i1 i2 i3)
       → natAbs (sumBoxZ n1 n2 n3 f) ≤ sumBox n1 n2 n3 g
   unfolding sumBoxZ sumBox
-  sumBoxZ-abs f g h = sumZ-abs n3 _ _ (λ i3 l3. sumZ-abs n2 _ _ (λ i2 l2. sumZ-abs n1 _ _ (λ i1 l1. h i1 i2 i3 l1 l2 l3)))
+  sumBoxZ-abs f g h =
+      sumZ-abs n3 _ _ (λ i3 l3.
+      sumZ-abs n2 _ _ (λ i2 l2.
+      sumZ-abs n1 _ _ (λ i1 l1. h i1 i2 i3 l1 l2 l3)))
 
-  -- numbers of size at most K, each with its share
-  pub blend-abs : (K : ℕ) (share : ℕ → ℕ → ℕ → ℕ) (corr : ℕ → ℕ → ℕ → ℤ) → ((i1 i2 i3 : ℕ) → i1 < n1 → i2 < n2 → i3 < n3 → natAbs (corr i1 i2 i3) ≤ K)
-      → natAbs (sumBoxZ n1 n2 n3 (λ i1 i2 i3. pos (share i1 i2 i3) *ℤ corr i1 i2 i3)) ≤ K * sumBox n1 n2 n3 share
+  -- numbers of size at most K, each with its share, add up to at most K times the shares' sum
+  pub blend-abs : (K : ℕ) (share : ℕ → ℕ → ℕ → ℕ) (corr : ℕ → ℕ → ℕ → ℤ)
+      → Inside n1 n2 n3 (λ i1 i2 i3. natAbs (corr i1 i2 i3) ≤ K)
+      → natAbs (sumBoxZ n1 n2 n3 (λ i1 i2 i3. pos (share i1 i2 i3) *ℤ corr i1 i2 i3))
+      ≤ K * sumBox n1 n2 n3 share
   blend-abs K share corr h =
       rw (← sumBox-mul n1 n2 n3 K share)
       (sumBoxZ-abs _ (λ i1 i2 i3. K * share i1 i2 i3)

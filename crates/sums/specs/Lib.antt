@@ -3,3 +3,4 @@ pub mod Coefficient
 pub mod Simplex
 pub mod Search
 pub mod Fill
+pub mod Word

@@ -6,10 +6,17 @@ use Rattle.sums.specs.Sum.{sumTo, sumZ}
 use Rattle.sums.specs.Coefficient.{multinomial}
 
 unfoldable pub sumSimplex : ℕ → (ℕ → ℕ → ℕ → ℕ → ℕ) → ℕ
-sumSimplex m f = sumTo (suc m) (λ a1. sumTo (suc a1) (λ a2. sumTo (suc a2) (λ a3. f (m - a1) (a1 - a2) (a2 - a3) a3)))
+sumSimplex m f =
+    sumTo (suc m) (λ a1.
+    sumTo (suc a1) (λ a2.
+    sumTo (suc a2) (λ a3. f (m - a1) (a1 - a2) (a2 - a3) a3)))
 
+-- the same over ℤ
 unfoldable pub sumSimplexZ : ℕ → (ℕ → ℕ → ℕ → ℕ → ℤ) → ℤ
-sumSimplexZ m f = sumZ (suc m) (λ a1. sumZ (suc a1) (λ a2. sumZ (suc a2) (λ a3. f (m - a1) (a1 - a2) (a2 - a3) a3)))
+sumSimplexZ m f =
+    sumZ (suc m) (λ a1.
+    sumZ (suc a1) (λ a2.
+    sumZ (suc a2) (λ a3. f (m - a1) (a1 - a2) (a2 - a3) a3)))
 
 -- m!/(b0! b1! b2! b3!) × L0^b0 × L1^b1 × L2^b2 × L3^b3
 unfoldable pub bernstein : ℕ → ℕ → ℕ → ℕ → ℕ → ℕ → ℕ → ℕ → ℕ → ℕ

@@ -1,6 +1,7 @@
 -- Checks in an order: the first that applies refuses.
-use mathlib.Core.Bool.{Bool, cond}
+use mathlib.Core.Bool.{Bool, _||_, cond}
 use Prim.Native.Nat.{ℕ}
+use lib.Dec.{ltb}
 use Rattle.sums.specs.Search.{Found, at, nowhere}
 use Rattle.unit.specs.declared.Checked.{Checked}
 use Rattle.unit.specs.declared.Checked.the-variants.{Passed, Stopped}
@@ -28,3 +29,8 @@ andThen (Stopped r) next = Stopped r
 abbrev pub passedOr : {A : Type 0} → Checked → A → (Refusal → A) → A
 passedOr Passed made kept = made
 passedOr (Stopped r) made kept = kept r
+
+-- check 9: the two block slices, given by their lengths, hold the n entries of a block
+abbrev pub blockRoomCheck : ℕ → ℕ → ℕ → Checked
+blockRoomCheck n correctionsLength uncertaintiesLength =
+    refuseIf 9 (ltb correctionsLength n || ltb uncertaintiesLength n) Passed

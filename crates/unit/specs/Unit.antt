@@ -7,7 +7,17 @@ use Rattle.unit.specs.declared.Unit.{Unit}
 
 -- "A fresh unit holds neither net nor block."
 abbrev pub emptyUnit : Unit
-emptyUnit = record { «has_net» = false; v1 = 0; v2 = 0; v3 = 0; v4 = 0; «has_block» = false; n1 = 0; n2 = 0; n3 = 0 }
+emptyUnit = record {
+  «has_net» = false;
+  v1 = 0;
+  v2 = 0;
+  v3 = 0;
+  v4 = 0;
+  «has_block» = false;
+  n1 = 0;
+  n2 = 0;
+  n3 = 0;
+}
 
 -- the four multiplicities of its net
 abbrev pub netOf : Unit → Multiplicities

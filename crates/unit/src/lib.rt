@@ -1,8 +1,9 @@
 // The unit record: which net and which block a correction unit holds, the limits on both, and the
 // answers that carry a unit or a refusal. Any values may stand in it.
 ghost use mathlib.Core.Path.{_≡_};
-ghost use Rattle.unit.specs.Unit.{emptyUnit, hasNet, sizeAllowed, sizesAllowed, hasBlock, withNet, withBlock};
-ghost use Rattle.unit.specs.Checks.{refusal};
+ghost use Rattle.unit.specs.Unit.{emptyUnit, hasBlock, hasNet, withBlock, withNet};
+ghost use Rattle.unit.specs.Unit.{sizeAllowed, sizesAllowed};
+ghost use Rattle.unit.specs.Checks.{refusal, blockRoomCheck};
 ghost use Rattle.spline.specs.Multiplicities.{multiplicities, allowed};
 
 #[repr(C)]
@@ -167,4 +168,17 @@ pub fn sizes_allowed(n1: u16, n2: u16, n3: u16) -> bool
         return false;
     }
     n1 as u32 * n2 as u32 * n3 as u32 <= Unit::ENTRIES
+}
+
+// Check 9, of block slices of these lengths for n entries.
+pub fn check_block_room(n: usize, corrections: usize, uncertainties: usize) -> Checked
+    ensures { λ r. ⌜ r ≡ blockRoomCheck n corrections uncertainties ⌝ }
+{
+    if corrections < n {
+        return Checked::stop(9, 0);
+    }
+    if uncertainties < n {
+        return Checked::stop(9, 0);
+    }
+    Checked::Passed
 }

@@ -1,12 +1,11 @@
 //! The calls of the archive, each with its slices between guard zones, held to an expected answer.
 
 use crate::Outcome;
-use crate::answers::{Answered, Changed, Loaded, point_answer, record, unit_answer};
+use crate::answers::{Answered, Changed, Handed, Loaded, point_answer};
 use crate::guard::Lent;
 use crate::torskavel;
 use evaluator::formats::join;
 use evaluator::sha256::hex_digest;
-use evaluator::unit::Unit;
 use std::fmt::{self, Debug};
 use std::sync::atomic::{AtomicBool, Ordering};
 
@@ -37,7 +36,7 @@ fn brief<T: ToString>(numbers: &[T]) -> String {
 }
 
 pub struct Build<'a> {
-    pub unit: Unit,
+    pub unit: Handed,
     pub order: &'a [u8],
     /// Of net and work.
     pub lengths: [usize; 2],
@@ -70,8 +69,8 @@ impl Build<'_> {
         let order = Lent::of("order", self.order);
         let mut net = Lent::junk("net", self.lengths[0]);
         let mut work = Lent::junk("work", self.lengths[1]);
-        let answer = torskavel::build(record(&self.unit), order.slice(), net.slice_mut(), work.slice_mut());
-        expect(unit_answer(&self.unit, expected), answer)?;
+        let answer = torskavel::build(self.unit.record(), order.slice(), net.slice_mut(), work.slice_mut());
+        expect(self.unit.net_answer(expected), answer)?;
         order.kept()?;
         if expected.is_err() {
             net.kept()?;
@@ -83,7 +82,7 @@ impl Build<'_> {
 }
 
 pub struct Inspection<'a> {
-    pub unit: Unit,
+    pub unit: Handed,
     pub v: [u8; 4],
     /// The net slice, and what it is for a reader.
     pub net: &'a [u32],
@@ -108,9 +107,9 @@ impl Inspection<'_> {
         let net = Lent::of("net", self.net);
         let mut defined = Lent::junk("defined", self.lengths[0]);
         let mut work = Lent::junk("work", self.lengths[1]);
-        let unit = record(&self.unit);
+        let unit = self.unit.record();
         let answer = torskavel::inspect(unit, self.v, net.slice(), defined.slice_mut(), work.slice_mut());
-        expect(unit_answer(&self.unit, expected), answer)?;
+        expect(self.unit.net_answer(expected), answer)?;
         net.kept()?;
         defined.zones_kept()?;
         work.zones_kept()
@@ -118,7 +117,7 @@ impl Inspection<'_> {
 }
 
 pub struct Load<'a> {
-    pub unit: Unit,
+    pub unit: Handed,
     pub file: &'a [u8],
     /// Of corrections and uncertainties.
     pub lengths: [usize; 2],
@@ -139,10 +138,10 @@ impl Load<'_> {
         let file = Lent::of("file", self.file);
         let mut corrections = Lent::junk("corrections", self.lengths[0]);
         let mut uncertainties = Lent::junk("uncertainties", self.lengths[1]);
-        let unit = record(&self.unit);
+        let unit = self.unit.record();
         let answer = torskavel::load(unit, file.slice(), corrections.slice_mut(), uncertainties.slice_mut());
         let changed = expected.as_ref().map(|(unit, _)| *unit).map_err(|refusal| *refusal);
-        expect(unit_answer(&self.unit, &changed), answer)?;
+        expect(self.unit.block_answer(&changed), answer)?;
         file.kept()?;
         let (c, u) =
             expected.as_ref().map_or((&[][..], &[][..]), |(_, block)| (&block.corrections, &block.uncertainties));
@@ -152,7 +151,7 @@ impl Load<'_> {
 }
 
 pub struct Point<'a> {
-    pub unit: Unit,
+    pub unit: Handed,
     /// The net slice, and what it is for a reader.
     pub net: &'a [u32],
     pub told: String,
@@ -181,7 +180,7 @@ impl Point<'_> {
         let net = Lent::of("net", self.net);
         let corrections = Lent::of("corrections", self.corrections);
         let uncertainties = Lent::of("uncertainties", self.uncertainties);
-        let (unit, c, u) = (record(&self.unit), corrections.slice(), uncertainties.slice());
+        let (unit, c, u) = (self.unit.record(), corrections.slice(), uncertainties.slice());
         let answer = torskavel::answer(unit, net.slice(), c, u, self.coordinates, self.divisor);
         expect(point_answer(expected), answer)?;
         net.kept()?;

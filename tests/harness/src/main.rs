@@ -8,9 +8,11 @@ mod random;
 mod report;
 mod shelf;
 mod stored;
+mod threads;
 #[path = "../../../include/torskavel.rs"]
 mod torskavel;
 
+use answers::Handed;
 use evaluator::unit::Unit;
 use random::points::{self, Spread};
 use random::{builds, inspections, loads};
@@ -22,14 +24,13 @@ use std::sync::atomic::Ordering;
 type Outcome<T = ()> = Result<T, String>;
 
 fn empty_unit() -> Outcome {
-    let unit = torskavel::empty_unit();
-    if unit == answers::record(&Unit::EMPTY) { Ok(()) } else { Err(format!("empty_unit answered {unit:?}")) }
+    let (unit, expected) = (torskavel::empty_unit(), Handed::from(Unit::EMPTY).record());
+    if unit == expected { Ok(()) } else { Err(format!("empty_unit answered {unit:?}")) }
 }
 
 fn stored_vectors(report: &mut Report) -> Outcome<Shelf> {
     let shelf = report.group(BUILD, "vectors/nets.txt", stored::nets::digests)?;
     report.group(BUILD, "vectors/whole-nets.txt", stored::nets::whole)?;
-    report.group(BUILD, "vectors/shares.txt", stored::nets::shares)?;
     report.group(BUILD, "vectors/builds.txt", |tally| stored::builds::run(&shelf, tally))?;
     report.group(INSPECT, "vectors/inspections.txt", |tally| stored::inspections::run(&shelf, tally))?;
     report.group(LOAD, "vectors/loads.txt", stored::loads::run)?;
@@ -49,6 +50,7 @@ fn random_calls(shelf: &Shelf, report: &mut Report) -> Outcome {
     group(ANSWER, "points", 5, &mut |seed, tally| points::any(seed, 30_000, shelf, &mut spread, tally))?;
     group(ANSWER, "points over damaged nets", 6, &mut |seed, tally| points::damaged(seed, 6000, shelf, tally))?;
     group(ANSWER, "points by recurrence", 7, &mut |seed, tally| points::by_recurrence(seed, 1500, shelf, tally))?;
+    group(ANSWER, "points at the same time", 8, &mut |seed, tally| threads::run(seed, shelf, tally))?;
     spread.finish()
 }
 

@@ -1,9 +1,11 @@
+-- No entry before the i-th is above the limit, so the first that is found has the lowest index.
 use mathlib.Core.Bool.{Bool}
 use mathlib.Core.List.{List}
 use mathlib.Core.Path.{_≡_}
 use Prim.Native.Nat.{_-_, _≤_, ℕ}
 use native.Mathlib.Nat.{le-antisymm}
 use native.Mathlib.Omega.{arith}
+use borrow.Author.Needs.{needs}
 use borrow.Author.Tests.{le-ltb, lt-ltb}
 use lib.Dec.{ltb}
 use denote.Ref.{now}
@@ -35,12 +37,17 @@ add-word-at c = omega arith
 word-at-requires : tie.Need-word-at-requires Inv-loop μ-loop
 word-at-requires c κs = omega arith
 
+stop-requires : tie.Need-stop-requires Inv-loop μ-loop
+stop-requires c κs = search needs
+
 returns : tie.Need-returns Inv-loop μ-loop
 returns c =
-    let b = c .before in
+    let b = c .before .before in
     let a = b .before .before .before .before .args in
-    simp
-    (first-hit (large (now (a .file)) (a .start)) (a .n) (b .before .before .loop .i) (b .before .before .loop .inv .1) (lt-ltb 32767 _ (rw (b .word-at .ensures) at (c .if1 .taken))) (omega arith))
+    let l = b .before .before .loop in
+    let hit = lt-ltb 32767 _ (rw (b .word-at .ensures) at (c .before .if1 .taken)) in
+    simp (first-hit (large (now (a .file)) (a .start)) (a .n) (l .i) (l .inv .1) hit (omega arith))
+    (c .stop .ensures)
 
 add-i : tie.Need-add-i Inv-loop μ-loop
 add-i c = omega arith
@@ -51,7 +58,8 @@ loop-less c = omega arith
 loop-again : tie.Need-loop-again Inv-loop μ-loop
 loop-again c =
     let b = c .before in
-    (omega arith, first-none _ _ (b .before .before .loop .inv .1) (le-ltb 32767 _ (rw (b .word-at .ensures) at (c .if1 .left))))
+    let small = le-ltb 32767 _ (rw (b .word-at .ensures) at (c .if1 .left)) in
+    (omega arith, first-none _ _ (b .before .before .loop .inv .1) small)
 
 returns-2 : tie.Need-returns-2 Inv-loop μ-loop
 returns-2 c =
@@ -68,6 +76,7 @@ check-limit-spec =
     mul-word-at
     add-word-at
     word-at-requires
+    stop-requires
     returns
     add-i
     loop-less

@@ -1,5 +1,6 @@
+-- Each group of checks is the definition's, and a later one is made only where those before have passed.
 use mathlib.Core.List.{List}
-use mathlib.Core.Path.{_∙_, _≡_, sym}
+use mathlib.Core.Path.{_∙_, _≡_, ap, sym}
 use Prim.Native.Nat.{_*_, _+_, _≤_, ℕ}
 use native.Mathlib.Omega.{arith}
 use borrow.Author.Needs.{needs}
@@ -9,8 +10,8 @@ use Rattle.unit.specs.declared.Checked.the-variants.{Passed}
 use Rattle.field.proofs.Accepted.{LayoutAccepted, layout-accepted}
 use Rattle.field.proofs.Entries.{counted}
 use Rattle.field.proofs.check_load.Statement.{statement}
-use Rattle.field.specs.File.{entryCount, uncertaintiesStart, uncertainty}
-use Rattle.field.specs.Load.{layoutChecks, loadChecks}
+use Rattle.field.specs.File.{entry, entryCount, uncertaintiesStart, uncertainty}
+use Rattle.field.specs.Load.{layoutChecks, limitCheck, loadChecks}
 use Rattle.field.proofs.check_load.Tie as tie
 
 -- the layout has passed its checks
@@ -37,6 +38,19 @@ module _ (c : tie.After-entries) where
 
   in-file : uncertaintiesStart n + 2 * n ≤ length (file checked)
   in-file = omega (arith, count, accepted checked .exact)
+
+-- the uncertainties have been looked at
+limit-is : (c : tie.After-check-limit) → (let f = file (checked (c .before)) in
+    c .check-limit .result ≡ limitCheck (entryCount f) (uncertainty f))
+unfolding uncertainty
+limit-is c =
+    let f = file (checked (c .before)) in
+    c .check-limit .ensures
+    ∙ ap (λ (k : ℕ). limitCheck k (entry f (uncertaintiesStart k))) (count (c .before))
+
+limit-passed : (c : tie.After-enum-told2) → (let f = file (checked (c .before .before .before)) in
+    limitCheck (entryCount f) (uncertainty f) ≡ Passed)
+limit-passed c = sym (limit-is (c .before .before)) ∙ c .enum-told2 .given .1
 
 check-layout-requires : tie.Need-check-layout-requires
 check-layout-requires c κs = search needs
@@ -66,18 +80,27 @@ add-check-limit c = omega (arith, in-file c)
 check-limit-requires : tie.Need-check-limit-requires
 check-limit-requires c κs = omega (arith, in-file c)
 
-check-room-requires : tie.Need-check-room-requires
-check-room-requires c κs = search needs
-
-and-then-requires : tie.Need-and-then-requires
-and-then-requires c κs = search needs
+enum-known-refusal-2 : tie.Need-enum-known-refusal-2
+enum-known-refusal-2 c = search needs
 
 returns-2 : tie.Need-returns-2
-unfolding loadChecks uncertainty
+unfolding loadChecks
 returns-2 c =
-    let b = c .before .before .before in
-    simp (passed (checked b), ← (count b))
-    (c .and-then .ensures ∙ simp (c .before .before .check-limit .ensures, c .before .check-room .ensures))
+    let l = c .before .before .before in
+    simp (passed (checked (l .before)), sym (limit-is l) ∙ c .before .refusal2 .given .1)
+
+enum-told-2 : tie.Need-enum-told-2
+enum-told-2 c = search needs
+
+check-block-room-requires : tie.Need-check-block-room-requires
+check-block-room-requires c κs = search needs
+
+returns-3 : tie.Need-returns-3
+unfolding loadChecks
+returns-3 c =
+    let l = c .before in
+    let e = l .before .before .before in
+    simp (passed (checked e), limit-passed l, ← (count e)) (c .check-block-room .ensures)
 
 pub check-load-spec : {M : Type 1} → statement M
 check-load-spec =
@@ -92,6 +115,8 @@ check-load-spec =
     mul-check-limit
     add-check-limit
     check-limit-requires
-    check-room-requires
-    and-then-requires
-    returns-2)
+    enum-known-refusal-2
+    returns-2
+    enum-told-2
+    check-block-room-requires
+    returns-3)

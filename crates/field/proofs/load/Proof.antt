@@ -1,3 +1,4 @@
+-- All checks have passed before the first write, so both arrays lie in the file and have room in the slices.
 use mathlib.Core.List.{List}
 use mathlib.Core.Path.{_∙_, _≡_, ap, sym}
 use Prim.Native.Nat.{_*_, _+_, _≤_, ℕ}

@@ -1,3 +1,4 @@
+-- After i turns the first i places hold the first i corrections, and the rest is as found.
 use mathlib.Core.List.{List}
 use mathlib.Core.Path.{_∙_, _≡_, ap, refl, sym}
 use Prim.Native.Nat.{_-_, _≤_, ℕ}
@@ -21,7 +22,9 @@ abbrev value : List ℕ → ℕ → ℕ → ℤ
 value file start i = signed (entry file start i)
 
 abbrev Inv-loop : tie.InvT-loop
-Inv-loop file start n corrections₀ i₀ corrections i = (i ≤ n) × (corrections ≡ filled (value file start) i corrections₀) × (length corrections ≡ length corrections₀)
+Inv-loop file start n corrections₀ i₀ corrections i =
+    (i ≤ n) × (corrections ≡ filled (value file start) i corrections₀)
+    × (length corrections ≡ length corrections₀)
 
 abbrev μ-loop : tie.MeasureT-loop
 μ-loop file start n corrections₀ i₀ corrections i = n - i
@@ -38,7 +41,10 @@ module _ (c : tie.After-to-signed Inv-loop μ-loop) where
   stored = toZ w16 (ofZ w16 (c .to-signed .result))
 
   read : stored ≡ value (now (start .args .file)) (start .args .start) i
-  read = toZ-ofZ (sfits-of (c .to-signed .ok)) ∙ c .to-signed .ensures ∙ ap signed (c .before .word-at .ensures)
+  read =
+      toZ-ofZ (sfits-of (c .to-signed .ok))
+      ∙ c .to-signed .ensures
+      ∙ ap signed (c .before .word-at .ensures)
 
 loop-holds : tie.Need-loop-holds Inv-loop μ-loop
 loop-holds c = (omega arith, sym (fill-none _ _), refl)

@@ -1,3 +1,4 @@
+-- After i turns the first i places hold the first i uncertainties, and the rest is as found.
 use mathlib.Core.List.{List}
 use mathlib.Core.Path.{_∙_, _≡_, ap, refl, sym}
 use Prim.Native.Nat.{_-_, _≤_, ℕ}
@@ -11,7 +12,9 @@ use Rattle.field.specs.File.{entry}
 use Rattle.field.proofs.read_uncertainties.Tie as tie
 
 abbrev Inv-loop : tie.InvT-loop
-Inv-loop file start n uncertainties₀ i₀ uncertainties i = (i ≤ n) × (uncertainties ≡ filled (entry file start) i uncertainties₀) × (length uncertainties ≡ length uncertainties₀)
+Inv-loop file start n uncertainties₀ i₀ uncertainties i =
+    (i ≤ n) × (uncertainties ≡ filled (entry file start) i uncertainties₀)
+    × (length uncertainties ≡ length uncertainties₀)
 
 abbrev μ-loop : tie.MeasureT-loop
 μ-loop file start n uncertainties₀ i₀ uncertainties i = n - i
@@ -44,7 +47,8 @@ loop-again : tie.Need-loop-again Inv-loop μ-loop
 loop-again c =
     let b = c .before .before .loop in (
       omega arith,
-      ap (λ (l : List ℕ). set l (b .i) (c .word-at .result)) (b .inv .1) ∙ fill-store _ (b .i) _ _ (omega arith) (c .word-at .ensures),
+      ap (λ (l : List ℕ). set l (b .i) (c .word-at .result)) (b .inv .1)
+          ∙ fill-store _ (b .i) _ _ (omega arith) (c .word-at .ensures),
       simp length-set (b .inv .2),
     )
 

@@ -1,3 +1,4 @@
+-- In the upper half the number is 65536 less, which fits 16 signed bits.
 use mathlib.Core.Path.{_∙_, _≡_, ap, sym}
 use Prim.Native.Nat.{ℕ}
 use native.Mathlib.Omega.{arith}

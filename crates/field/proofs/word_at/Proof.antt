@@ -1,3 +1,4 @@
+-- Two bytes are below 256 each, so the sum fits 16 bits.
 use mathlib.Core.Path.{refl}
 use Prim.Native.Nat.{_+_, _<_}
 use native.Mathlib.Omega.{arith}
@@ -10,10 +11,12 @@ use Rattle.field.specs.File.{word}
 use Rattle.field.proofs.word_at.Tie as tie
 
 -- both bytes are below 256
-bytes : (c : tie.After-shared-slice-known2) → (let a = c .before .before .args in (getD (now (a .file)) (a .at) 0 < 256) × (getD (now (a .file)) (a .at + 1) 0 < 256))
+bytes : (c : tie.After-shared-slice-known2) → (let a = c .before .before .args in
+    (getD (now (a .file)) (a .at) 0 < 256) × (getD (now (a .file)) (a .at + 1) 0 < 256))
 bytes c =
     let at = c .before .before .args .at in
-    (omega (arith, c .shared-slice-known2 .given at), omega (arith, c .shared-slice-known2 .given (at + 1)))
+    let byte = c .shared-slice-known2 .given in
+    (omega (arith, byte at), omega (arith, byte (at + 1)))
 
 shared-slice-read-low : tie.Need-shared-slice-read-low
 shared-slice-read-low c = search needs

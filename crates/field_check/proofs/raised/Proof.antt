@@ -39,7 +39,10 @@ module _ (c : tie.Start) where
   wide = record { sfits = omega (arith, range) }
 
   total : toZ w32 (ofZ w32 (toZ w16 (ofZ w16 z))) +ℤ pos 32768 ≡ pos (above z)
-  total = ap (λ (y : ℤ). toZ w32 (ofZ w32 y) +ℤ pos 32768) own ∙ ap (λ (y : ℤ). y +ℤ pos 32768) (toZ-ofZ wide) ∙ sum z range
+  total =
+      ap (λ (y : ℤ). toZ w32 (ofZ w32 y) +ℤ pos 32768) own
+      ∙ ap (λ (y : ℤ). y +ℤ pos 32768) (toZ-ofZ wide)
+      ∙ sum z range
 
   total-fits : SFits w32 (pos (above z))
   total-fits = record { sfits = omega (arith, small z range) }

@@ -7,7 +7,8 @@ use Rattle.inspect_check.proofs.run.Statement.{statement}
 use Rattle.inspect_check.proofs.run.Tie as tie
 
 abbrev Inv-loop : tie.InvT-loop
-Inv-loop text net₀ defined₀ work₀ at₀ turn₀ turn-end net defined work at turn = (length net ≡ length net₀) × (length defined ≡ length defined₀) × (length work ≡ length work₀)
+Inv-loop text net₀ defined₀ work₀ at₀ turn₀ turn-end net defined work at turn =
+    (length net ≡ length net₀) × (length defined ≡ length defined₀) × (length work ≡ length work₀)
 
 abbrev μ-loop : tie.MeasureT-loop
 μ-loop text net₀ defined₀ work₀ at₀ turn₀ turn-end net defined work at turn = turn-end - turn

@@ -1,11 +1,13 @@
-use mathlib.Core.Bool.{Bool, _||_, false, not, true}
+-- Each check stops with its refusal, in the definition's order; past them the two lists are compared.
+use mathlib.Core.Bool.{_||_, false, not, true}
 use mathlib.Core.List.{List}
 use mathlib.Core.Path.{_∙_, _≡_, ap, refl, subst, sym}
-use Prim.Native.Nat.{_≤_, ℕ}
+use Prim.Native.Nat.{_<_, _≤_, ℕ}
 use native.Mathlib.Omega.{arith}
 use borrow.Author.Needs.{needs}
 use borrow.Author.Tests.{ltb-false, not-false}
 use lib.Dec.{eqb, ltb}
+use lib.IntN.{ℤ}
 use lib.ListN.{getD, length}
 use denote.Ref.{now}
 use Rattle.sums.proofs.Fill.{filled-at, length-filled}
@@ -16,22 +18,23 @@ use Rattle.spline.specs.Box.{places, width}
 use Rattle.spline.specs.Multiplicities.{Multiplicities, allowed}
 use Rattle.spline.specs.Place.{Axis}
 use Rattle.unit.proofs.Checks.{if-passed, if-stopped, or-false}
+use Rattle.unit.proofs.Limits.{allowed-limits}
 use Rattle.unit.specs.Checks.{refuseAt}
 use Rattle.unit.specs.declared.Checked.the-variants.{Passed}
-use Rattle.shape.proofs.Shapes.{limited-boxed, shape-widths}
-use Rattle.shape.specs.Shape.{Boxed, counted, widths}
-use Rattle.inspection.proofs.Limits.{counts-limited}
+use Rattle.shape.proofs.Shapes.{limits-boxed, shape-widths}
+use Rattle.shape.specs.Inner.Boxes.{Boxed}
+use Rattle.shape.specs.Shape.{counted, widths}
+use Rattle.shape.specs.declared.Shape.{Shape}
 use Rattle.inspection.proofs.check_net.Statement.{statement}
-use Rattle.inspection.specs.Inspect.{definedNumber, differs, differsFrom, inspectChecks}
+use Rattle.inspection.specs.Inner.Lists.{differs}
+use Rattle.inspection.specs.Inspect.{definedNumber, differsFrom, inspectChecks, shorter}
 use Rattle.inspection.proofs.check_net.Tie as tie
 
 -- the multiplicities are within their limits
 ok : (c : tie.Else1) → allowed (counted (c .before .before .before .before .args .c)) ≡ true
-ok c = sym (c .before .multiplicities-allowed .ensures) ∙ not-false (c .before .multiplicities-allowed .result) (c .if1 .left)
-
--- the places of the box are counted
-places-are : (c : tie.After-places-of) → c .places-of .result ≡ places (width (counted (c .before .before .before .before .before .before .args .c)))
-places-are c = c .places-of .ensures
+ok c =
+    sym (c .before .multiplicities-allowed .ensures)
+    ∙ not-false (c .before .multiplicities-allowed .result) (c .if1 .left)
 
 -- the slices are long enough
 module _ (t : tie.After-enum-told) where
@@ -41,35 +44,68 @@ module _ (t : tie.After-enum-told) where
   abbrev v : Multiplicities
   v = counted (start .args .c)
 
+  abbrev n : ℕ
+  n = places (width v)
+
+  abbrev net : List ℕ
+  net = now (start .args .net)
+
+  abbrev defined : List ℕ
+  defined = now (start .args .defined)
+
+  abbrev work : List ℤ
+  work = now (start .args .work)
+
+  abbrev shape : Shape
+  shape = t .before .before .before .before .shape-of .result
+
   fine : allowed v ≡ true
   fine = ok (t .before .before .before .before .before)
 
-  abbrev tests : ℕ → Bool
-  tests n = ltb (length (now (start .args .net))) n || ltb (length (now (start .args .defined))) n || ltb (length (now (start .args .work))) n
+  none : shorter (length net) (length defined) (length work) n ≡ false
+  none =
+      let places-of = t .before .before .before .places-of in
+      ap (shorter (length net) (length defined) (length work)) (sym (places-of .ensures))
+      ∙ if-passed 4 (shorter (length net) (length defined) (length work) (places-of .result)) Passed
+      (sym (t .before .before .check-room .ensures) ∙ t .enum-told .given .1) .0
 
-  none : tests (places (width v)) ≡ false
-  none = ap tests (sym (places-are (t .before .before .before))) ∙ if-passed 4 (tests (t .before .before .before .places-of .result)) Passed (sym (t .before .before .check-room .ensures) ∙ t .enum-told .given .1) .0
-
-  rooms : (places (width v) ≤ length (now (start .args .net))) × (places (width v) ≤ length (now (start .args .defined))) × (places (width v) ≤ length (now (start .args .work)))
+  rooms : (n ≤ length net) × (n ≤ length defined) × (n ≤ length work)
   rooms =
-      let e = or-false (ltb (length (now (start .args .net))) (places (width v)) || ltb (length (now (start .args .defined))) (places (width v))) _ none in
-      let f = or-false (ltb (length (now (start .args .net))) (places (width v))) _ (e .0) in
+      let e = or-false (ltb (length net) n || ltb (length defined) n) _ none in
+      let f = or-false (ltb (length net) n) _ (e .0) in
       (ltb-false _ _ (f .0), ltb-false _ _ (f .1), ltb-false _ _ (e .1))
 
-  widths-are : widths (t .before .before .before .before .shape-of .result) ≡ width v
+  widths-are : widths shape ≡ width v
   widths-are = ap widths (t .before .before .before .before .shape-of .ensures .0) ∙ shape-widths v
 
-  boxed : Boxed (t .before .before .before .before .shape-of .result)
-  boxed = subst Boxed (sym (t .before .before .before .before .shape-of .ensures .0)) (limited-boxed (start .args .c) (counts-limited (start .args .c) fine))
+  boxed : Boxed shape
+  boxed =
+      let e = t .before .before .before .before .shape-of .ensures .0 in
+      subst Boxed (sym e) (limits-boxed v (allowed-limits v fine))
 
-  -- what is found in the work slice is what differs from the defined net
-  found : (l : List ℕ) → l ≡ filled (definedNumber v) (places (width v)) (now (start .args .defined))
-      → refuseAt 14 (first (places (widths (t .before .before .before .before .shape-of .result))) (differs (now (start .args .net)) l)) Passed
-      ≡ refuseAt 14 (first (places (width v)) (differsFrom (definedNumber v) (now (start .args .net)))) Passed
+  -- what has room for the box has room for the shape
+  as-shape : (m : ℕ) → n ≤ m → places (widths shape) ≤ m
+  as-shape m = subst (λ (W : Axis → ℕ). places W ≤ m) (sym widths-are)
+
+  -- ---- a list that holds the defined net
+
+  abbrev Laid : List ℕ → Type 0
+  Laid l = l ≡ filled (definedNumber v) n defined
+
+  laid-length : (l : List ℕ) → Laid l → length l ≡ length defined
+  laid-length l e = ap length e ∙ length-filled (definedNumber v) n defined (rooms .1)
+
+  laid-at : (l : List ℕ) → Laid l → (i : ℕ) → i < n → getD l i 0 ≡ definedNumber v i
+  laid-at l e i r = ap (λ (s : List ℕ). getD s i 0) e ∙ filled-at (definedNumber v) n defined i 0 r
+
+  -- what differs from it is what differs from the defined net
+  found : (l : List ℕ) → Laid l
+      → refuseAt 14 (first (places (widths shape)) (differs net l)) Passed
+      ≡ refuseAt 14 (first n (differsFrom (definedNumber v) net)) Passed
   found l e =
-      ap (λ (W : Axis → ℕ). refuseAt 14 (first (places W) (differs (now (start .args .net)) l)) Passed) widths-are
-      ∙ ap (λ f. refuseAt 14 f Passed) (first-cong (places (width v)) _ _ (λ i r.
-      ap (λ (n : ℕ). not (eqb (getD (now (start .args .net)) i 0) n)) (ap (λ (s : List ℕ). getD s i 0) e ∙ filled-at (definedNumber v) (places (width v)) (now (start .args .defined)) i 0 r)))
+      ap (λ (W : Axis → ℕ). refuseAt 14 (first (places W) (differs net l)) Passed) widths-are
+      ∙ ap (λ f. refuseAt 14 f Passed)
+      (first-cong n _ _ (λ i r. ap (λ (k : ℕ). not (eqb (getD net i 0) k)) (laid-at l e i r)))
 
 multiplicities-allowed-requires : tie.Need-multiplicities-allowed-requires
 multiplicities-allowed-requires c κs = search needs
@@ -80,7 +116,7 @@ stop-requires c κs = search needs
 returns : tie.Need-returns
 unfolding inspectChecks
 returns c =
-    let e : not (allowed (counted (c .before .before .before .before .before .args .c))) ≡ true = ap not (sym (c .before .before .multiplicities-allowed .ensures)) ∙ c .before .if1 .taken in
+    let e = ap not (sym (c .before .before .multiplicities-allowed .ensures)) ∙ c .before .if1 .taken in
     (rw e (c .stop .ensures), (refl, refl))
 
 shape-of-requires : tie.Need-shape-of-requires
@@ -99,10 +135,13 @@ returns-2 : tie.Need-returns-2
 unfolding inspectChecks
 returns-2 c =
     let l = c .before .before .before .before .before .before in
-    let s = l .before .before .before .before in
-    let n = places-are (c .before .before .before .before) in
-    let h = sym (c .before .before .before .check-room .ensures) ∙ c .before .refusal .given .1 in
-    (rw (ap not (ok l), ← n) (sym (if-stopped 4 (ltb (length (now (s .args .net))) (c .before .before .before .before .places-of .result) || ltb (length (now (s .args .defined))) (c .before .before .before .before .places-of .result) || ltb (length (now (s .args .work))) (c .before .before .before .before .places-of .result)) _ _ h)), (refl, refl))
+    let a = l .before .before .before .before .args in
+    let places-of = c .before .before .before .before .places-of in
+    let short = shorter (length (now (a .net))) (length (now (a .defined))) (length (now (a .work))) in
+    let h = sym (c .before .before .before .check-room .ensures) ∙ c .before .refusal .given .1 in (
+      rw (ap not (ok l), ← places-of .ensures) (sym (if-stopped 4 (short (places-of .result)) _ _ h)),
+      (refl, refl),
+    )
 
 enum-told : tie.Need-enum-told
 enum-told c = search needs
@@ -110,13 +149,15 @@ enum-told c = search needs
 lay-defined-requires : tie.Need-lay-defined-requires
 lay-defined-requires c κs =
     let t = c .before .before in
-    (counts-limited (start t .args .c) (fine t), rooms t .1, rooms t .2)
+    (allowed-limits (v t) (fine t), (rooms t .1, rooms t .2))
 
 compare-requires : tie.Need-compare-requires
 compare-requires c κs =
     let t = c .before .before .before .before .before .before .before in
-    let e = c .before .before .before .before .lay-defined .ensures .0 in
-    (boxed t, subst (λ (W : Axis → ℕ). places W ≤ length (now (start t .args .net))) (sym (widths-are t)) (rooms t .0), subst (λ (W : Axis → ℕ). places W ≤ length (c .before .before .before .before .lay-defined .last .1 .0)) (sym (widths-are t)) (omega (arith, ap length e ∙ length-filled (definedNumber (v t)) (places (width (v t))) (now (start t .args .defined)) (rooms t .1), rooms t .1)))
+    let laid = c .before .before .before .before .lay-defined in
+    let l = laid .last .1 .0 in
+    let room : n t ≤ length l = omega (arith, laid-length t l (laid .ensures .0), rooms t .1) in
+    (boxed t, as-shape t _ (rooms t .0), as-shape t (length l) room)
 
 same-length : tie.Need-same-length
 same-length c = search needs
@@ -129,7 +170,9 @@ unfolding inspectChecks
 returns-3 c =
     let t = c .before .before .before .before .before .before .before .before in
     let l = c .before .before .before .before .before .lay-defined in
-    (simp (ap not (fine t), none t) (c .compare .ensures ∙ found t (l .last .1 .0) (l .ensures .0)), (ap length (l .ensures .0) ∙ length-filled (definedNumber (v t)) (places (width (v t))) (now (start t .args .defined)) (rooms t .1), l .ensures .1))
+    let compared = c .compare .ensures ∙ found t (l .last .1 .0) (l .ensures .0) in
+    let kept = laid-length t (l .last .1 .0) (l .ensures .0) in
+    (simp (ap not (fine t), none t) compared, (kept, l .ensures .1))
 
 pub check-net-spec : {M : Type 1} → statement M
 check-net-spec =

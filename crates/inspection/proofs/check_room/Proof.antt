@@ -1,3 +1,4 @@
+-- The three lengths are compared in turn; where no test applies, all are long enough.
 use native.Mathlib.Omega.{arith}
 use borrow.Author.Needs.{needs}
 use borrow.Author.Tests.{le-ltb, lt-ltb}
@@ -26,12 +27,16 @@ stop-requires-3 c κs = search needs
 returns-3 : tie.Need-returns-3
 returns-3 c =
     let a = c .before .before .before .before .args in
-    simp (le-ltb (a .net) (a .n) (omega arith), le-ltb (a .defined) (a .n) (omega arith), lt-ltb (a .work) (a .n) (omega arith)) (c .stop3 .ensures)
+    let net = le-ltb (a .net) (a .n) (omega arith) in
+    let defined = le-ltb (a .defined) (a .n) (omega arith) in
+    simp (net, defined, lt-ltb (a .work) (a .n) (omega arith)) (c .stop3 .ensures)
 
 returns-4 : tie.Need-returns-4
 returns-4 c =
     let a = c .before .before .before .args in
-    simp (le-ltb (a .net) (a .n) (omega arith), le-ltb (a .defined) (a .n) (omega arith), le-ltb (a .work) (a .n) (omega arith))
+    let net = le-ltb (a .net) (a .n) (omega arith) in
+    let defined = le-ltb (a .defined) (a .n) (omega arith) in
+    simp (net, defined, le-ltb (a .work) (a .n) (omega arith))
 
 pub check-room-spec : {M : Type 1} → statement M
 check-room-spec =

@@ -1,3 +1,4 @@
+-- After i turns the first i bytes of the array are those of the definition.
 use mathlib.Core.List.{List}
 use mathlib.Core.Path.{_∙_, _≡_, ap, refl, sym}
 use Prim.Native.Nat.{_-_, _≤_, ℕ}
@@ -9,11 +10,12 @@ use Rattle.sums.proofs.Fill.{fill-none, fill-store, take-filled}
 use Rattle.sums.specs.Fill.{filled}
 use Rattle.shape.specs.Shape.{counted}
 use Rattle.inspection.proofs.defined_order.Statement.{statement}
-use Rattle.inspection.specs.Inspect.{definedByte}
+use Rattle.inspection.specs.Inner.Lists.{definedByte}
 use Rattle.inspection.proofs.defined_order.Tie as tie
 
 abbrev Inv-loop : tie.InvT-loop
-Inv-loop c order₀ i₀ order i = (i ≤ 8) × (order ≡ filled (definedByte (counted c)) i order₀) × (length order ≡ 8)
+Inv-loop c order₀ i₀ order i =
+    (i ≤ 8) × (order ≡ filled (definedByte (counted c)) i order₀) × (length order ≡ 8)
 
 abbrev μ-loop : tie.MeasureT-loop
 μ-loop c order₀ i₀ order i = 8 - i
@@ -35,9 +37,12 @@ loop-less c = omega arith
 
 loop-again : tie.Need-loop-again Inv-loop μ-loop
 loop-again c =
-    let l = c .before .before .loop in (
+    let l = c .before .before .loop in
+    let f = definedByte (counted (c .before .before .before .args .c)) in
+    let b = c .byte-at in (
       omega arith,
-      ap (λ (s : List ℕ). set s (l .i) (c .byte-at .result)) (l .inv .1) ∙ fill-store (definedByte (counted (c .before .before .before .args .c))) (l .i) _ (c .byte-at .result) (omega arith) (c .byte-at .ensures),
+      ap (λ (s : List ℕ). set s (l .i) (b .result)) (l .inv .1)
+          ∙ fill-store f (l .i) _ (b .result) (omega arith) (b .ensures),
       simp length-set (l .inv .2),
     )
 
@@ -45,7 +50,10 @@ returns : tie.Need-returns Inv-loop μ-loop
 returns c =
     let l = c .before .loop in
     let f = definedByte (counted (c .before .before .args .c)) in
-    sym (take-all 8 (l .order) (omega (arith, l .inv .2))) ∙ ap (λ (s : List ℕ). take 8 s) (l .inv .1 ∙ ap (λ (k : ℕ). filled f k _) (le-antisymm (l .inv .0) (c .loop-test .left))) ∙ take-filled f 8 8 _ (le-refl 8)
+    let end = le-antisymm (l .inv .0) (c .loop-test .left) in
+    sym (take-all 8 (l .order) (omega (arith, l .inv .2)))
+    ∙ ap (λ (s : List ℕ). take 8 s) (l .inv .1 ∙ ap (λ (k : ℕ). filled f k _) end)
+    ∙ take-filled f 8 8 _ (le-refl 8)
 
 pub defined-order-spec : {M : Type 1} → statement M
 defined-order-spec =

@@ -1,3 +1,4 @@
+-- The unit has the net where all checks passed; otherwise the answer is their refusal.
 use mathlib.Core.Path.{_∙_, ap, sym}
 use borrow.Author.Needs.{needs}
 use Rattle.unit.specs.declared.UnitAnswer.the-variants.{Changed}
@@ -21,7 +22,8 @@ returns : tie.Need-returns
 unfolding inspectAnswer
 returns c =
     let k = c .before .before .before .before .before .before .check-net in
-    (simp (sym (k .ensures .0) ∙ c .before .refusal .given .1), (k .ensures .1 .0, k .ensures .1 .1))
+    let refused = sym (k .ensures .0) ∙ c .before .refusal .given .1 in
+    (simp refused, (k .ensures .1 .0, k .ensures .1 .1))
 
 enum-told : tie.Need-enum-told
 enum-told c = search needs
@@ -39,7 +41,8 @@ returns-2 : tie.Need-returns-2
 unfolding inspectAnswer
 returns-2 c =
     let k = c .before .before .before .before .before .before .check-net in
-    (simp (sym (k .ensures .0) ∙ c .before .enum-told .given .1) (ap Changed (c .with-net .ensures)), (k .ensures .1 .0, k .ensures .1 .1))
+    let passed = sym (k .ensures .0) ∙ c .before .enum-told .given .1 in
+    (simp passed (ap Changed (c .with-net .ensures)), (k .ensures .1 .0, k .ensures .1 .1))
 
 pub inspect-spec : {M : Type 1} → statement M
 inspect-spec =

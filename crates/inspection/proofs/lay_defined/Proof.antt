@@ -1,3 +1,4 @@
+-- The order that defines the net passes a build's checks, and what it builds is the defined net.
 use mathlib.Core.List.{List}
 use mathlib.Core.Path.{_∙_, _≡_, sym}
 use Prim.Native.Nat.{_≤_, ℕ}
@@ -6,17 +7,18 @@ use borrow.Author.Needs.{needs}
 use lib.ListN.{length}
 use denote.Ref.{now}
 use Rattle.sums.specs.Fill.{filled}
-use Rattle.spline.proofs.Multiplicities.{Positive}
-use Rattle.spline.specs.Box.{netList}
+use Rattle.spline.proofs.Multiplicities.{Positive, limits-positive}
+use Rattle.spline.specs.Box.{netList, places, width}
 use Rattle.spline.specs.Multiplicities.{Multiplicities}
 use Rattle.unit.specs.declared.Checked.the-variants.{Passed}
 use Rattle.shape.specs.Shape.{counted}
 use Rattle.net.proofs.Accepted.{build-passes}
 use Rattle.net.specs.Build.{buildNet, buildWork}
-use Rattle.net.specs.Order.{buildChecks}
-use Rattle.inspection.proofs.DefinedBytes.{order, order-filled, order-good, order-length, order-places, repeatCount}
-use Rattle.inspection.proofs.Limits.{limited-positive}
+use Rattle.net.specs.Order.{buildChecks, orderNumber, orderPlaces}
+use Rattle.inspection.proofs.DefinedBytes.{order, order-filled, order-good, order-length}
+use Rattle.inspection.proofs.DefinedBytes.{order-places, repeatCount}
 use Rattle.inspection.proofs.lay_defined.Statement.{statement}
+use Rattle.inspection.specs.Inspect.{definedNumber}
 use Rattle.inspection.proofs.lay_defined.Tie as tie
 
 module _ (s : tie.Start) where
@@ -24,27 +26,39 @@ module _ (s : tie.Start) where
   v = counted (s .args .c)
 
   positive : Positive v
-  positive = limited-positive (s .args .c) 12 (s .pre .0)
+  positive = limits-positive (s .pre .0)
 
   few : repeatCount v ≤ 8
-  few = omega (arith, s .pre .0 .most)
+  few = omega (arith, s .pre .0 .sum)
 
 -- the defined order is made
 module _ (d : tie.After-defined-order) where
   abbrev start : tie.Start
   start = d .before .before
 
+  abbrev w : Multiplicities
+  w = v start
+
+  abbrev bytes : List ℕ
+  bytes = d .defined-order .result
+
   abbrev made : List ℕ
-  made = order (v start) (positive start) (few start) (d .defined-order .result) (d .defined-order .ensures)
+  made = order w (positive start) (few start) bytes (d .defined-order .ensures)
 
   passes : buildChecks made (length (now (start .args .defined))) (length (now (start .args .work))) ≡ Passed
   passes =
-      let e = order-places (v start) (positive start) (few start) (d .defined-order .result) (d .defined-order .ensures) in
+      let e = order-places w (positive start) (few start) bytes (d .defined-order .ensures) in
       build-passes made _ _ (record {
-        good = order-good (v start) (positive start) (few start) (d .defined-order .result) (d .defined-order .ensures);
-        net-room = omega (arith, e, start .pre .1);
-        work-room = omega (arith, e, start .pre .2);
+        good = order-good w (positive start) (few start) bytes (d .defined-order .ensures);
+        net-room = omega (arith, e, start .pre .1 .0);
+        work-room = omega (arith, e, start .pre .1 .1);
       })
+
+  built : filled (orderNumber made) (orderPlaces made) (now (start .args .defined))
+      ≡ filled (definedNumber w) (places (width w)) (now (start .args .defined))
+  built =
+      order-filled w (positive start) (few start) bytes (d .defined-order .ensures)
+      (now (start .args .defined))
 
 defined-order-requires : tie.Need-defined-order-requires
 defined-order-requires c κs = search needs
@@ -80,7 +94,9 @@ array-share-prefix-order : tie.Need-array-share-prefix-order
 array-share-prefix-order c = search needs
 
 slice-aggregate-build : tie.Need-slice-aggregate-build
-slice-aggregate-build c = let d = c .before .before .before .before .before .before in sym (order-length (v (start d)) (positive (start d)) (few (start d)) (d .defined-order .result) (d .defined-order .ensures))
+slice-aggregate-build c =
+    let d = c .before .before .before .before .before .before in
+    sym (order-length (w d) (positive (start d)) (few (start d)) (bytes d) (d .defined-order .ensures))
 
 build-requires : tie.Need-build-requires
 build-requires c κs = search needs
@@ -94,9 +110,9 @@ same-length-2 c = search needs
 returns : tie.Need-returns
 unfolding buildNet buildWork filled netList
 returns c =
-    let d = c .before .before .before .before .before .before .before .before .before .before .before .before in
-    let b = c .before .before .before .build .ensures in
-    (rw (passes d) at (b .1 .0) ∙ order-filled (v (start d)) (positive (start d)) (few (start d)) (d .defined-order .result) (d .defined-order .ensures) (now (start d .args .defined)), rw (passes d) at (b .1 .1))
+    let b = c .before .before .before in
+    let d = b .before .before .before .before .before .before .before .before .before in
+    (rw (passes d) at (b .build .ensures .1 .0) ∙ built d, rw (passes d) at (b .build .ensures .1 .1))
 
 pub lay-defined-spec : {M : Type 1} → statement M
 lay-defined-spec =

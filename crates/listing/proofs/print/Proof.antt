@@ -1,3 +1,4 @@
+-- `print` meets its contract: at most nine bytes of the order are read, and these decide what is printed.
 use mathlib.Core.List.{List, map}
 use mathlib.Core.Path.{_∙_, _≡_, ap, subst, sym}
 use Prim.Native.Nat.{_≤_, min, ℕ}
@@ -10,11 +11,11 @@ use denote.Ref.{now}
 use Rattle.sums.proofs.Fill.{take-filled}
 use Rattle.listing.proofs.Printed.{nine-decide}
 use Rattle.listing.proofs.Texts.{put-first, put-length}
-use Rattle.listing.proofs.Typed.{numbers-typed}
+use Rattle.listing.proofs.Orders.{numbers-typed}
 use Rattle.listing.proofs.print.Statement.{statement}
 use Rattle.listing.specs.Order.{digitNumber, orderLength}
-use Rattle.listing.specs.Print.{printed, printedOrder}
-use Rattle.listing.specs.Text.{Put}
+use Rattle.listing.specs.Print.{printedOrder}
+use Rattle.listing.specs.Inner.Put.{Put}
 use Rattle.listing.proofs.print.Tie as tie
 
 -- once the order is read
@@ -26,14 +27,20 @@ module _ (c : tie.After-read-order) where
   n = c .before .before .least .result
 
   count : n ≡ min (orderLength text) 9
-  count = c .before .before .least .ensures .0 ∙ ap (λ (k : ℕ). min k 9) (c .before .before .before .order-length .ensures .0)
+  count =
+      c .before .before .least .ensures .0
+      ∙ ap (λ (k : ℕ). min k 9) (c .before .before .before .order-length .ensures .0)
 
   typed-enough : n ≤ length text
-  typed-enough = omega (arith, c .before .before .least .ensures .1, c .before .before .before .order-length .ensures .1)
+  typed-enough =
+      let b = c .before .before in
+      omega (arith, b .least .ensures .1, b .before .order-length .ensures .1)
 
   numbers : take n (c .read-order .last .1 .1 .0) ≡ map digitNumber (take n text)
   numbers =
-      ap (take n) (c .read-order .ensures) ∙ take-filled (λ (i : ℕ). digitNumber (getD text i 0)) n n _ (le-refl n) ∙ numbers-typed text n typed-enough
+      ap (take n) (c .read-order .ensures)
+      ∙ take-filled (λ (i : ℕ). digitNumber (getD text i 0)) n n _ (le-refl n)
+      ∙ numbers-typed text n typed-enough
 
 order-length-requires : tie.Need-order-length-requires
 order-length-requires c κs = search needs
@@ -53,7 +60,9 @@ array-share-prefix-order c = search needs
 slice-aggregate-print-order : tie.Need-slice-aggregate-print-order
 slice-aggregate-print-order c =
     let r = c .before .before in
-    sym (length-take-le (n r) (r .read-order .last .1 .1 .0) (omega (arith, r .before .before .least .ensures .2, r .read-order .kept)))
+    let o = r .read-order in
+    let l = r .before .before .least in
+    sym (length-take-le (n r) (o .last .1 .1 .0) (omega (arith, l .ensures .2, o .kept)))
 
 print-order-requires : tie.Need-print-order-requires
 print-order-requires c κs = search needs
@@ -62,8 +71,9 @@ returns : tie.Need-returns
 returns c =
     let r = c .before .before .before .before in
     let p = c .print-order in
-    let out = c .before .before .before .before .before .before .before .before .before .args .out in
-    let t : Put (printed (text r)) (now out) (p .last .1 .0) 0 (p .result) = subst (λ (t : List ℕ). Put t (now out) (p .last .1 .0) 0 (p .result)) (ap printedOrder (numbers r) ∙ nine-decide (text r) (n r) (count r)) (p .ensures .0) in
+    let out = now (r .before .before .before .before .before .args .out) in
+    let e = ap printedOrder (numbers r) ∙ nine-decide (text r) (n r) (count r) in
+    let t = subst (λ (t : List ℕ). Put t out (p .last .1 .0) 0 (p .result)) e (p .ensures .0) in
     let f = put-first t (p .ensures .1) in
     let h : p .result ≤ length (p .last .1 .0) = omega (arith, p .ensures .1, put-length t) in
     (f .0, (f .1, (h, sym (length-take-le (p .result) (p .last .1 .0) h))))

@@ -1,3 +1,4 @@
+-- `print_order` meets its contract: what the build left is listed, or its refusal is told.
 use mathlib.Core.List.{List}
 use mathlib.Core.Path.{_∙_, _≡_, ap, refl, subst, sym}
 use Prim.Native.Nat.{ℕ}
@@ -8,6 +9,8 @@ use Rattle.spline.specs.Multiplicities.{orderMultiplicities}
 use Rattle.unit.proofs.Checks.{unit-changed, unit-refused}
 use Rattle.unit.specs.Checks.{passedOr}
 use Rattle.unit.specs.Unit.{emptyUnit, netOf, withNet}
+use Rattle.unit.specs.declared.Checked.{Checked}
+use Rattle.unit.specs.declared.Checked.the-variants.{Passed}
 use Rattle.unit.specs.declared.Unit.{Unit}
 use Rattle.unit.specs.declared.UnitAnswer.the-variants.{Changed, Refused}
 use Rattle.net.specs.Build.{buildAnswer}
@@ -15,9 +18,9 @@ use Rattle.net.specs.Order.{buildChecks}
 use Rattle.listing.proofs.Built.{listed, listed-text}
 use Rattle.listing.proofs.Printed.{printed-refused}
 use Rattle.listing.proofs.print_order.Statement.{statement}
-use Rattle.listing.specs.Fit.{Listed}
+use Rattle.listing.specs.Inner.Fit.{Listed}
 use Rattle.listing.specs.Print.{netText}
-use Rattle.listing.specs.Text.{Put}
+use Rattle.listing.specs.Inner.Put.{Put}
 use Rattle.listing.proofs.print_order.Tie as tie
 
 -- once the build has answered
@@ -31,9 +34,21 @@ module _ (c : tie.After-build) where
   abbrev net : List ℕ
   net = c .build .last .1 .1 .0
 
-  answered : c .build .result ≡ passedOr (buildChecks typed 9261 9261) (Changed (withNet emptyUnit (orderMultiplicities typed))) Refused
+  abbrev checks : Checked
+  checks = buildChecks typed 9261 9261
+
+  abbrev changed : Unit
+  changed = withNet emptyUnit (orderMultiplicities typed)
+
+  answered : c .build .result ≡ passedOr checks (Changed changed) Refused
   unfolding buildAnswer
-  answered = c .build .ensures .0 ∙ ap (λ (u : Unit). buildAnswer u typed 9261 9261) (c .before .before .before .empty .ensures)
+  answered =
+      c .build .ensures .0
+      ∙ ap (λ (u : Unit). buildAnswer u typed 9261 9261) (c .before .before .before .empty .ensures)
+
+  -- a unit comes where the checks pass
+  made : (u : Unit) → c .build .result ≡ Changed u → (checks ≡ Passed) × (u ≡ changed)
+  made u e = unit-changed checks _ (sym answered ∙ e)
 
 empty-requires : tie.Need-empty-requires
 empty-requires c κs = search needs
@@ -56,8 +71,9 @@ slice-aggregate-put-net c = search needs
 put-net-requires : tie.Need-put-net-requires
 put-net-requires c κs =
     let b = c .before .before .before .before .before .before .before in
-    let m = unit-changed (buildChecks (typed b) 9261 9261) _ (sym (answered b) ∙ c .before .before .before .answer .given .1) in
-    subst (λ (u : Unit). Listed u (net b) (length (now (start b .args .out)))) (sym (m .1)) (listed (typed b) (m .0) _ (net b) refl (b .build .ensures .1 .0) _ (start b .pre))
+    let m = made b _ (c .before .before .before .answer .given .1) in
+    subst (λ (u : Unit). Listed u (net b) (length (now (start b .args .out)))) (sym (m .1))
+    (listed (typed b) (m .0) _ (net b) refl (b .build .ensures .1 .0) _ (start b .pre))
 
 enum-known-answer-2 : tie.Need-enum-known-answer-2
 enum-known-answer-2 c = search needs
@@ -71,10 +87,11 @@ same-length c = search needs
 returns : tie.Need-returns
 returns c =
     let b = c .before .before .before .before .before .before .before .before .before .before in
-    let m = unit-changed (buildChecks (typed b) 9261 9261) _ (sym (answered b) ∙ c .before .before .before .before .before .before .answer .given .1) in
+    let m = made b _ (c .before .before .before .before .before .before .answer .given .1) in
     let p = c .before .before .put-net in (
       subst (λ (t : List ℕ). Put t (now (start b .args .out)) (p .last .0) 0 (p .result))
-          (ap (λ (u : Unit). netText (netOf u) (λ i. getD (net b) i 0)) (m .1) ∙ listed-text (typed b) (m .0) _ (net b) refl (b .build .ensures .1 .0))
+          (ap (λ (u : Unit). netText (netOf u) (λ i. getD (net b) i 0)) (m .1)
+          ∙ listed-text (typed b) (m .0) _ (net b) refl (b .build .ensures .1 .0))
           (p .ensures .0),
       p .ensures .1,
     )
@@ -86,8 +103,13 @@ returns-2 : tie.Need-returns-2
 returns-2 c =
     let b = c .before .before .before .before .before .before .before .before .before in
     let p = c .before .before .put-refusal in
-    let e = unit-refused (buildChecks (typed b) 9261 9261) _ (sym (answered b) ∙ c .before .before .before .before .before .answer2 .given .1) in
-    (subst (λ (t : List ℕ). Put t (now (start b .args .out)) (p .last .0) 0 (p .result)) (sym (printed-refused (typed b) _ e)) (p .ensures .0), p .ensures .1)
+    let given = c .before .before .before .before .before .answer2 .given .1 in
+    let e = unit-refused (checks b) _ (sym (answered b) ∙ given) in (
+      subst (λ (t : List ℕ). Put t (now (start b .args .out)) (p .last .0) 0 (p .result))
+          (sym (printed-refused (typed b) _ e))
+          (p .ensures .0),
+      p .ensures .1,
+    )
 
 pub print-order-spec : {M : Type 1} → statement M
 print-order-spec =

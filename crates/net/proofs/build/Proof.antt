@@ -1,4 +1,7 @@
+-- A refused build returns before it writes; one that passed its checks runs the order.
+use mathlib.Core.List.{List}
 use mathlib.Core.Path.{_∙_, _≡_, ap, sym}
+use Prim.Native.Nat.{ℕ}
 use borrow.Author.Needs.{needs}
 use lib.ListN.{length}
 use denote.Ref.{now}
@@ -18,11 +21,20 @@ module _ (c : tie.After-enum-told) where
   abbrev start : tie.Start
   start = c .before .before .before .before .before
 
-  passed : buildChecks (now (start .args .order)) (length (now (start .args .net))) (length (now (start .args .work))) ≡ Passed
+  abbrev order : List ℕ
+  order = now (start .args .order)
+
+  abbrev net-length : ℕ
+  net-length = length (now (start .args .net))
+
+  abbrev work-length : ℕ
+  work-length = length (now (start .args .work))
+
+  passed : buildChecks order net-length work-length ≡ Passed
   passed = sym (c .before .before .check-build .ensures) ∙ c .enum-told .given .1
 
-  taken : BuildAccepted (now (start .args .order)) (length (now (start .args .net))) (length (now (start .args .work)))
-  taken = build-accepted (now (start .args .order)) _ _ passed
+  taken : BuildAccepted order net-length work-length
+  taken = build-accepted order net-length work-length passed
 
 check-build-requires : tie.Need-check-build-requires
 check-build-requires c κs = search needs
@@ -42,7 +54,7 @@ enum-told c = search needs
 run-requires : tie.Need-run-requires
 run-requires c κs =
     let r = taken (c .before .before) in
-    (r .good, r .net-room, r .work-room)
+    (r .good, (r .net-room, r .work-room))
 
 counts-of-requires : tie.Need-counts-of-requires
 counts-of-requires c κs = taken (c .before .before .before .before .before .before) .good
@@ -60,8 +72,10 @@ returns-2 : tie.Need-returns-2
 unfolding buildAnswer buildNet buildWork filled netList
 returns-2 c =
     let r = c .before .before .before .before .before .before .before .before in
-    let f = c .before .before .before .before .before .run in (
-      simp (passed r) (ap Changed (c .with-net .ensures ∙ ap (withNet (start r .args .unit)) (c .before .counts-of .ensures .0))),
+    let f = c .before .before .before .before .before .run in
+    let counts = c .before .counts-of .ensures .0 in
+    let unit = c .with-net .ensures ∙ ap (withNet (start r .args .unit)) counts in (
+      simp (passed r) (ap Changed unit),
       (simp (passed r) (f .ensures .0), simp (passed r) (f .ensures .1)),
     )
 

@@ -1,3 +1,4 @@
+-- E − 1 ≤ k is k + 1 ≥ E, and k ≤ n − 1 is k < n where n is at least 1.
 use mathlib.Core.Bool.{Bool, false, true}
 use mathlib.Core.Path.{_≡_, refl, sym}
 use Prim.Native.Nat.{_+_, _-_, _≤_, ℕ}

@@ -1,9 +1,18 @@
+-- The remainders fall in the order of the axes, so no weight is below 0.
 use mathlib.Core.Path.{refl}
+use native.Mathlib.Omega.{arith}
 use borrow.Author.Needs.{needs}
-use Rattle.placing.proofs.Order.{largest, point-falling}
+use Rattle.placing.proofs.Ranks.{Falling, point-falling}
 use Rattle.placing.proofs.placing_of.Statement.{statement}
 use Rattle.placing.specs.Placing.{placing}
 use Rattle.placing.proofs.placing_of.Tie as tie
+
+-- the axes have been ranked
+module _ (c : tie.After-rank) where
+  falls : Falling (c .before .args .divisor) (c .rank .result)
+  falls =
+      let a = c .before .args in
+      rw (c .rank .ensures) (point-falling (a .x) (a .y) (a .z) (a .divisor) (c .before .pre))
 
 rem-rank : tie.Need-rem-rank
 rem-rank c = search needs
@@ -27,13 +36,13 @@ div-t7 : tie.Need-div-t7
 div-t7 c = search needs
 
 sub-t9 : tie.Need-sub-t9
-sub-t9 c = rw (c .before .rank .ensures) (largest (c .before .before .args .x) (c .before .before .args .y) (c .before .before .args .z) (c .before .before .args .divisor) (c .before .before .pre))
+sub-t9 c = omega (arith, falls (c .before))
 
 sub-t10 : tie.Need-sub-t10
-sub-t10 c = rw (c .before .before .rank .ensures) (point-falling (c .before .before .before .args .x) (c .before .before .before .args .y) (c .before .before .before .args .z) (c .before .before .before .args .divisor) (c .before .before .before .pre) .first)
+sub-t10 c = omega (arith, falls (c .before .before))
 
 sub-t11 : tie.Need-sub-t11
-sub-t11 c = rw (c .before .before .before .rank .ensures) (point-falling (c .before .before .before .before .args .x) (c .before .before .before .before .args .y) (c .before .before .before .before .args .z) (c .before .before .before .before .args .divisor) (c .before .before .before .before .pre) .second)
+sub-t11 c = omega (arith, falls (c .before .before .before))
 
 returns : tie.Need-returns
 unfolding placing

@@ -1,3 +1,4 @@
+-- After i turns the product is i!×D^i and at most the limit.
 use mathlib.Core.Path.{_≡_, refl, sym}
 use Prim.Native.Nat.{_*_, _+_, _-_, _≤_, ℕ}
 use native.Mathlib.Nat.{mul-le-mul}
@@ -25,13 +26,18 @@ add-i : tie.Need-add-i Inv-loop μ-loop
 add-i c = omega arith
 
 mul-product : tie.Need-mul-product Inv-loop μ-loop
-mul-product c = let i : c .before .loop .i + 1 ≤ 9 = omega arith in omega (arith, mul-le-mul i (c .before .before .pre .2))
+mul-product c =
+    let i : c .before .loop .i + 1 ≤ 9 = omega arith in
+    omega (arith, mul-le-mul i (c .before .before .pre .2))
 
 mul-product-2 : tie.Need-mul-product-2 Inv-loop μ-loop
-mul-product-2 c = let i : c .before .loop .i + 1 ≤ 9 = omega arith in omega (arith, mul-le-mul (c .before .loop .inv .2) (mul-le-mul i (c .before .before .pre .2)))
+mul-product-2 c =
+    let i : c .before .loop .i + 1 ≤ 9 = omega arith in
+    omega (arith, mul-le-mul (c .before .loop .inv .2) (mul-le-mul i (c .before .before .pre .2)))
 
 returns : tie.Need-returns Inv-loop μ-loop
-returns c = let s = c .before .before .before in
+returns c =
+    let s = c .before .before .before in
     let at = c .before .before .loop in
     let e = step (s .args .divisor) (at .i) (at .inv .1) in
     let l = scale-le (at .i + 1) (s .args .m) (s .args .divisor) (s .pre .1) (omega arith) in
@@ -41,10 +47,13 @@ loop-less : tie.Need-loop-less Inv-loop μ-loop
 loop-less c = omega arith
 
 loop-again : tie.Need-loop-again Inv-loop μ-loop
-loop-again c = let at = c .before .before .loop in (omega arith, step (c .before .before .before .args .divisor) (at .i) (at .inv .1), omega arith)
+loop-again c =
+    let at = c .before .before .loop in
+    (omega arith, step (c .before .before .before .args .divisor) (at .i) (at .inv .1), omega arith)
 
 returns-2 : tie.Need-returns-2 Inv-loop μ-loop
-returns-2 c = let s = c .before .before in
+returns-2 c =
+    let s = c .before .before in
     let at = c .before .loop in
     let e : at .i ≡ s .args .m = omega arith in
     let v : at .product ≡ scale (s .args .m) (s .args .divisor) = rw e at (at .inv .1) in

@@ -1,16 +1,23 @@
-use mathlib.Core.Path.{_∙_, _≡_, refl, sym}
+-- The checks come in the definition's order, and a point that is placed has all that a valuing asks for.
+use mathlib.Core.Path.{_∙_, _≡_, ap, sym}
+use Prim.Native.Nat.{ℕ}
 use borrow.Author.Needs.{needs}
 use lib.ListN.{length}
 use denote.Ref.{now}
 use Rattle.unit.proofs.Checks.{then-passed}
+use Rattle.unit.specs.Unit.{netOf}
 use Rattle.unit.specs.declared.Checked.the-variants.{Passed}
-use Rattle.placing.proofs.Order.{weights-add-up}
-use Rattle.placing.proofs.Placed.{place-placed, place-refused, placed}
-use Rattle.placing.specs.Place.{pointChecks, unitChecks}
-use Rattle.placing.specs.Placing.{placing}
+use Rattle.placing.proofs.Ranks.{weights-add-up}
+use Rattle.placing.proofs.Placed.{place-placed, place-refused, point-accepted}
+use Rattle.placing.specs.Place.{placeAnswer, pointChecks, unitChecks}
+use Rattle.placing.specs.Inner.Ranking.{weightSum}
+use Rattle.placing.specs.Placing.{placing, sizes}
+use Rattle.placing.specs.declared.Placing.{Placing}
 use Rattle.point.proofs.Answers.{Lent, fit, lent}
 use Rattle.point.proofs.answer.Statement.{statement}
-use Rattle.point.specs.Answer.{lentChecks, pointAnswer}
+use Rattle.point.specs.Answer.{correctionAt, lentChecks, numberAt, pointAnswer, uncertaintyAt}
+use Rattle.point.specs.Answer.{valueAnswer}
+use Rattle.point.specs.declared.PointAnswer.{PointAnswer}
 use Rattle.point.proofs.answer.Tie as tie
 
 -- what is lent has passed its checks
@@ -18,22 +25,46 @@ module _ (c : tie.After-enum-told) where
   abbrev start : tie.Start
   start = c .before .before .before .before .before
 
-  passed : lentChecks (start .args .unit) (length (now (start .args .net))) (length (now (start .args .corrections))) (length (now (start .args .uncertainties))) ≡ Passed
+  passed : (let a = start .args in
+      lentChecks (a .unit) (length (now (a .net))) (length (now (a .corrections)))
+      (length (now (a .uncertainties)))
+      ≡ Passed)
   passed = sym (c .before .before .check-lent .ensures) ∙ c .enum-told .given .1
 
-  held : Lent (start .args .unit) (length (now (start .args .net))) (length (now (start .args .corrections))) (length (now (start .args .uncertainties)))
+  held : (let a = start .args in
+      Lent (a .unit) (length (now (a .net))) (length (now (a .corrections)))
+      (length (now (a .uncertainties))))
   held = lent _ _ _ _ passed
 
   unit-passed : unitChecks (start .args .unit) ≡ Passed
   unfolding lentChecks
   unit-passed = then-passed (unitChecks (start .args .unit)) _ passed .0
 
-point-placed : (c : tie.After-known-told2) → (let s = start (c .before .before .before .before) in
-    (pointChecks (s .args .unit) (s .args .x) (s .args .y) (s .args .z) (s .args .divisor) ≡ Passed) × (c .before .q .given .0 .0 ≡ placing (s .args .x) (s .args .y) (s .args .z) (s .args .divisor)))
+-- the placing call's answer
+place-is : (c : tie.After-place) → (let a = start (c .before) .args in
+    c .place .result ≡ placeAnswer (a .unit) (a .x) (a .y) (a .z) (a .divisor))
+place-is c = c .place .ensures
+
+point-placed : (c : tie.After-known-told2) → (let a = start (c .before .before .before .before) .args in
+    (pointChecks (a .unit) (a .x) (a .y) (a .z) (a .divisor) ≡ Passed)
+    × (c .before .q .given .0 .0 ≡ placing (a .x) (a .y) (a .z) (a .divisor)))
 point-placed c =
     let t = c .before .before .before .before in
-    let s = start t in
-    place-placed (s .args .unit) (s .args .x) (s .args .y) (s .args .z) (s .args .divisor) (unit-passed t) (sym (c .before .before .before .place .ensures) ∙ c .before .q .given .1)
+    let a = start t .args in
+    place-placed (a .unit) (a .x) (a .y) (a .z) (a .divisor) (unit-passed t)
+    (sym (place-is (c .before .before .before)) ∙ c .before .q .given .1)
+
+-- the value of the placing
+module _ (a : tie.Start) where
+  abbrev value-at : Placing → ℕ → PointAnswer
+  value-at =
+      let n = sizes (a .args .unit) in
+      valueAnswer (netOf (a .args .unit)) n (numberAt (now (a .args .net)))
+      (correctionAt n (now (a .args .corrections))) (uncertaintyAt n (now (a .args .uncertainties)))
+
+valued : (c : tie.After-value) → (let q = c .before .before .q .given .0 .0 in
+    c .value .result ≡ value-at (start (c .before .before .before .before .before)) q (weightSum q))
+valued c = c .value .ensures
 
 check-lent-requires : tie.Need-check-lent-requires
 check-lent-requires c κs = search needs
@@ -57,9 +88,11 @@ enum-known-q c = search needs
 value-requires : tie.Need-value-requires
 value-requires c κs =
     let t = c .before .before .before .before in
-    let s = start t in
+    let a = start t .args in
     let p = point-placed c in
-    rw (p .1) (fit (s .args .unit) (length (now (s .args .net))) (length (now (s .args .corrections))) (length (now (s .args .uncertainties))) (s .args .x) (s .args .y) (s .args .z) (s .args .divisor) (held t) (placed _ _ _ _ _ (p .0)))
+    rw (p .1)
+    (fit (a .unit) (length (now (a .net))) (length (now (a .corrections))) (length (now (a .uncertainties)))
+    (a .x) (a .y) (a .z) (a .divisor) (held t) (point-accepted _ _ _ _ _ (p .0)))
 
 enum-known-refusal-2 : tie.Need-enum-known-refusal-2
 enum-known-refusal-2 c = search needs
@@ -69,15 +102,22 @@ unfolding pointAnswer
 returns-2 c =
     let t = c .before .before .before .before .before in
     let s = start t in
+    let a = s .args in
     let p = point-placed (c .before) in
-    simp (passed t, p .0) (c .value .ensures ∙ rw (p .1, weights-add-up (s .args .x) (s .args .y) (s .args .z) (s .args .divisor) (placed _ _ _ _ _ (p .0) .some)) refl)
+    let some = point-accepted _ _ _ _ _ (p .0) .some in
+    simp (passed t, p .0)
+    (valued c
+    ∙ ap (λ (q : Placing). value-at s q (weightSum q)) (p .1)
+    ∙ ap (value-at s (placing (a .x) (a .y) (a .z) (a .divisor)))
+    (weights-add-up (a .x) (a .y) (a .z) (a .divisor) some))
 
 returns-3 : tie.Need-returns-3
 unfolding pointAnswer
 returns-3 c =
     let t = c .before .before .before .before in
-    let s = start t in
-    simp (passed t, place-refused (s .args .unit) (s .args .x) (s .args .y) (s .args .z) (s .args .divisor) (unit-passed t) (sym (c .before .before .before .place .ensures) ∙ c .before .refusal2 .given .1))
+    let a = start t .args in
+    let refused = sym (place-is (c .before .before .before)) ∙ c .before .refusal2 .given .1 in
+    simp (passed t, place-refused (a .unit) (a .x) (a .y) (a .z) (a .divisor) (unit-passed t) refused)
 
 pub answer-spec : {M : Type 1} → statement M
 answer-spec =

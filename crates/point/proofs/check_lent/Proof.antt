@@ -1,10 +1,13 @@
+-- Each check is the definition's own, on the places of the unit's net and the entries of its block.
 use mathlib.Core.Bool.{false}
 use mathlib.Core.Path.{_∙_, _≡_, ap, sym}
+use Prim.Native.Nat.{ℕ}
 use borrow.Author.Needs.{needs}
 use borrow.Author.Tests.{le-ltb, lt-ltb}
 use lib.Dec.{ltb}
 use Rattle.spline.specs.Box.{places, width}
 use Rattle.spline.specs.Multiplicities.{Multiplicities}
+use Rattle.unit.specs.Checks.{blockRoomCheck}
 use Rattle.unit.specs.Unit.{netOf}
 use Rattle.unit.specs.declared.Checked.the-variants.{Passed}
 use Rattle.placing.specs.Place.{unitChecks}
@@ -15,10 +18,13 @@ use Rattle.point.proofs.check_lent.Tie as tie
 unit-passed : (c : tie.After-enum-told) → unitChecks (c .before .before .before .args .unit) ≡ Passed
 unit-passed c = sym (c .before .before .check-unit .ensures) ∙ c .enum-told .given .1
 
-places-are : (c : tie.After-places-of) → c .places-of .result ≡ places (width (netOf (c .before .before .before .before .before .args .unit)))
-places-are c = c .places-of .ensures ∙ ap (λ (v : Multiplicities). places (width v)) (c .before .of-unit .ensures)
+places-are : (c : tie.After-places-of) → (let s = c .before .before .before .before .before in
+    c .places-of .result ≡ places (width (netOf (s .args .unit))))
+places-are c =
+    c .places-of .ensures ∙ ap (λ (v : Multiplicities). places (width v)) (c .before .of-unit .ensures)
 
-net-long : (c : tie.Else1) → (let s = c .before .before .before .before .before .before in ltb (s .args .net) (places (width (netOf (s .args .unit)))) ≡ false)
+net-long : (c : tie.Else1) → (let s = c .before .before .before .before .before .before in
+    ltb (s .args .net) (places (width (netOf (s .args .unit)))) ≡ false)
 net-long c = le-ltb _ _ (rw (places-are (c .before)) at (c .if1 .left))
 
 check-unit-requires : tie.Need-check-unit-requires
@@ -47,34 +53,24 @@ returns-2 : tie.Need-returns-2
 unfolding lentChecks
 returns-2 c =
     let p = c .before .before in
-    simp (unit-passed (p .before .before), lt-ltb _ _ (rw (places-are p) at (c .before .if1 .taken))) (c .stop .ensures)
+    simp (unit-passed (p .before .before), lt-ltb _ _ (rw (places-are p) at (c .before .if1 .taken)))
+    (c .stop .ensures)
 
 entries-of-requires : tie.Need-entries-of-requires
 entries-of-requires c κs = search needs
 
-stop-requires-2 : tie.Need-stop-requires-2
-stop-requires-2 c κs = search needs
+check-block-room-requires : tie.Need-check-block-room-requires
+check-block-room-requires c κs = search needs
 
 returns-3 : tie.Need-returns-3
 unfolding lentChecks
 returns-3 c =
-    let e = c .before .before in
-    simp (unit-passed (e .before .before .before .before), net-long (e .before), lt-ltb _ _ (rw (e .entries-of .ensures) at (c .before .if2 .taken))) (c .stop2 .ensures)
-
-stop-requires-3 : tie.Need-stop-requires-3
-stop-requires-3 c κs = search needs
-
-returns-4 : tie.Need-returns-4
-unfolding lentChecks
-returns-4 c =
-    let e = c .before .before .before in
-    simp (unit-passed (e .before .before .before .before), net-long (e .before), le-ltb _ _ (rw (e .entries-of .ensures) at (c .before .before .if2 .left)), lt-ltb _ _ (rw (e .entries-of .ensures) at (c .before .if3 .taken))) (c .stop3 .ensures)
-
-returns-5 : tie.Need-returns-5
-unfolding lentChecks
-returns-5 c =
-    let e = c .before .before in
-    simp (unit-passed (e .before .before .before .before), net-long (e .before), le-ltb _ _ (rw (e .entries-of .ensures) at (c .before .if2 .left)), le-ltb _ _ (rw (e .entries-of .ensures) at (c .if3 .left)))
+    let e = c .before in
+    let s = e .before .before .before .before .before .before .before in
+    simp (unit-passed (e .before .before .before .before), net-long (e .before))
+    (c .check-block-room .ensures
+    ∙ ap (λ (n : ℕ). blockRoomCheck n (s .args .corrections) (s .args .uncertainties))
+    (e .entries-of .ensures))
 
 pub check-lent-spec : {M : Type 1} → statement M
 check-lent-spec =
@@ -89,8 +85,5 @@ check-lent-spec =
     stop-requires
     returns-2
     entries-of-requires
-    stop-requires-2
-    returns-3
-    stop-requires-3
-    returns-4
-    returns-5)
+    check-block-room-requires
+    returns-3)

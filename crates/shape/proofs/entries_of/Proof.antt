@@ -1,3 +1,4 @@
+-- Three sizes of 16 bits have a product that fits.
 use Prim.Native.Nat.{_≤_}
 use native.Mathlib.Nat.{mul-le-mul}
 use native.Mathlib.Omega.{arith}

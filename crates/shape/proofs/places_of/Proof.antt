@@ -1,3 +1,4 @@
+-- Three widths within their bounds have a product that fits.
 use mathlib.Core.Path.{ap}
 use Prim.Native.Nat.{_*_}
 use native.Mathlib.Nat.{mul-le-mul}
@@ -14,12 +15,12 @@ shape-of-requires c κs = search needs
 mul-result : tie.Need-mul-result
 mul-result c =
     let e = c .before .shape-of .ensures in
-    omega (arith, mul-le-mul (e .1) (e .2))
+    omega (arith, mul-le-mul (e .1 .0) (e .1 .1))
 
 mul-result-2 : tie.Need-mul-result-2
 mul-result-2 c =
     let e = c .before .before .shape-of .ensures in
-    omega (arith, box-le (e .1) (e .2) (e .3))
+    omega (arith, box-le (e .1 .0) (e .1 .1) (e .1 .2))
 
 returns : tie.Need-returns
 returns c = ap (λ (s : Shape). s .w1 * s .w2 * s .w3) (c .before .before .shape-of .ensures .0)

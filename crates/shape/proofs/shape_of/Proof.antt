@@ -1,3 +1,4 @@
+-- The degree is that of the multiplicities, and each width is computed of it as the definition has it.
 use mathlib.Core.Path.{_∙_, ap}
 use Prim.Native.Nat.{_*_, _+_, ℕ}
 use borrow.Author.Needs.{needs}
@@ -28,9 +29,7 @@ returns c =
           (e1 .0 ∙ ap (λ (m : ℕ). m * (a .c .v1 + a .c .v4) + 1) e)
           (e2 .0 ∙ ap (λ (m : ℕ). m * (a .c .v2 + a .c .v4) + 1) e)
           (e3 .0 ∙ ap (λ (m : ℕ). m * (a .c .v3 + a .c .v4) + 1) e),
-      e1 .1,
-      e2 .1,
-      e3 .1,
+      (e1 .1, e2 .1, e3 .1),
     )
 
 pub shape-of-spec : {M : Type 1} → statement M

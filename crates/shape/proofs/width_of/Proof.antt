@@ -1,3 +1,4 @@
+-- A degree within its bound and two bytes give a width that fits.
 use mathlib.Core.Path.{refl}
 use Prim.Native.Nat.{_*_, _+_, _≤_}
 use native.Mathlib.Nat.{mul-le-mul}

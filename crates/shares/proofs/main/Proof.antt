@@ -1,20 +1,27 @@
-use mathlib.Core.Path.{_≡_, refl, sym}
-use Prim.Native.Nat.{_-_, _≤_}
-use native.Mathlib.Omega.{arith}
+-- `main` ends: each byte that is read was wanted, so with it fewer are left to want.
+use mathlib.Core.List.{List}
+use mathlib.Core.Path.{_∙_, subst, sym}
+use Prim.Native.Nat.{_<_, ℕ}
 use borrow.Author.Needs.{needs}
-use lib.ListN.{length, length-set}
-use lib.Seq.{length-take-le}
+use Rattle.listing.proofs.Reading.{fewer-left, left}
+use Rattle.listing.specs.Reading.{held}
 use Rattle.shares.proofs.main.Statement.{statement}
 use Rattle.shares.proofs.main.Tie as tie
 
 abbrev Inv-loop : tie.InvT-loop
-Inv-loop typed₀ n₀ t5 typed n = (n ≤ 10) × (length typed ≡ 10)
+Inv-loop typed₀ t4 typed = Unit {0}
 
 abbrev μ-loop : tie.MeasureT-loop
-μ-loop typed₀ n₀ t5 typed n = 10 - n
+μ-loop typed₀ t4 typed = left (held typed)
+
+nothing-requires : tie.Need-nothing-requires Inv-loop μ-loop
+nothing-requires c κs = search needs
 
 loop-holds : tie.Need-loop-holds Inv-loop μ-loop
-loop-holds c = (omega arith, refl)
+loop-holds c = tt
+
+wants-more-requires : tie.Need-wants-more-requires Inv-loop μ-loop
+wants-more-requires c κs = search needs
 
 read-byte-requires : tie.Need-read-byte-requires Inv-loop μ-loop
 read-byte-requires c κs = search needs
@@ -22,17 +29,18 @@ read-byte-requires c κs = search needs
 enum-known-input : tie.Need-enum-known-input Inv-loop μ-loop
 enum-known-input c = search needs
 
-array-write-typed : tie.Need-array-write-typed Inv-loop μ-loop
-array-write-typed c = search needs
-
-add-n : tie.Need-add-n Inv-loop μ-loop
-add-n c = search needs
+with-byte-requires : tie.Need-with-byte-requires Inv-loop μ-loop
+with-byte-requires c κs = search needs
 
 loop-less : tie.Need-loop-less Inv-loop μ-loop
-loop-less c = search needs
+loop-less c =
+    let w = c .before .before .before .before .before in
+    let s = held (w .before .before .loop .typed) in
+    subst (λ (l : List ℕ). left l < left s) (sym (c .with-byte .ensures))
+    (fewer-left s _ (sym (w .before .wants-more .ensures) ∙ w .if1 .taken))
 
 loop-again : tie.Need-loop-again Inv-loop μ-loop
-loop-again c = (omega arith, simp length-set (c .before .before .before .before .before .loop .inv .1))
+loop-again c = tt
 
 enum-told : tie.Need-enum-told Inv-loop μ-loop
 enum-told c = search needs
@@ -49,14 +57,6 @@ fail-requires c κs = search needs
 returns : tie.Need-returns Inv-loop μ-loop
 returns c = search needs
 
-array-share-prefix-typed : tie.Need-array-share-prefix-typed Inv-loop μ-loop
-array-share-prefix-typed c = omega (arith, c .before .loop .inv)
-
-slice-aggregate-list : tie.Need-slice-aggregate-list Inv-loop μ-loop
-slice-aggregate-list c =
-    let l = c .before .before .loop in
-    sym (length-take-le (l .n) (l .typed) (omega (arith, l .inv)))
-
 list-requires : tie.Need-list-requires Inv-loop μ-loop
 list-requires c κs = search needs
 
@@ -69,11 +69,12 @@ main-spec =
     (tie.spec
     Inv-loop
     μ-loop
+    nothing-requires
     loop-holds
+    wants-more-requires
     read-byte-requires
     enum-known-input
-    array-write-typed
-    add-n
+    with-byte-requires
     loop-less
     loop-again
     enum-told
@@ -81,7 +82,5 @@ main-spec =
     slice-aggregate-fail
     fail-requires
     returns
-    array-share-prefix-typed
-    slice-aggregate-list
     list-requires
     returns-2)

@@ -1,3 +1,4 @@
+-- The two tests are the two of the definition.
 use native.Mathlib.Omega.{arith}
 use borrow.Author.Tests.{le-leb}
 use Rattle.unit.proofs.size_allowed.Statement.{statement}

@@ -1,3 +1,4 @@
+-- The four tests are those of the definition, in its order; past three of them the product fits 32 bits.
 use mathlib.Core.Bool.{true}
 use mathlib.Core.Path.{_∙_, _≡_, sym}
 use Prim.Native.Nat.{_*_, _≤_, ℕ}
@@ -48,7 +49,9 @@ size-allowed-requires-2 c κs = search needs
 
 returns-2 : tie.Need-returns-2
 unfolding sizesAllowed
-returns-2 c = simp (ok1 (c .before .before), sym (c .before .size-allowed2 .ensures) ∙ not-true _ (c .if2 .taken))
+returns-2 c =
+    let refused = sym (c .before .size-allowed2 .ensures) ∙ not-true _ (c .if2 .taken) in
+    simp (ok1 (c .before .before), refused)
 
 size-allowed-requires-3 : tie.Need-size-allowed-requires-3
 size-allowed-requires-3 c κs = search needs
@@ -56,8 +59,8 @@ size-allowed-requires-3 c κs = search needs
 returns-3 : tie.Need-returns-3
 unfolding sizesAllowed
 returns-3 c =
-    simp
-    (ok1 (c .before .before .before .before), ok2 (c .before .before), sym (c .before .size-allowed3 .ensures) ∙ not-true _ (c .if3 .taken))
+    let refused = sym (c .before .size-allowed3 .ensures) ∙ not-true _ (c .if3 .taken) in
+    simp (ok1 (c .before .before .before .before), ok2 (c .before .before), refused)
 
 mul-result : tie.Need-mul-result
 mul-result c = omega (arith, fit c)

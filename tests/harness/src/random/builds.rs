@@ -15,7 +15,7 @@ pub fn run(seed: u64, count: usize, shelf: &Shelf, tally: &mut Tally) -> Outcome
     each_plan(seed, count, &CHECKS, |plan, random| {
         let (order, lengths) = case(plan, random);
         let unit = unit(random);
-        let expected = calls::build(&unit, &order, lengths);
+        let expected = calls::build(&unit.unit, &order, lengths);
         plan.made(number(&expected))?;
         let net = expected.ok().and_then(|unit| unit.net()).map_or(&[][..], |v| &shelf.net(v).numbers);
         Build { unit, order: &order, lengths }.check(&expected, net)?;

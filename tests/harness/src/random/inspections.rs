@@ -2,14 +2,13 @@
 
 use super::{Plan, break_multiplicities, each_case, each_plan, long_enough, pick, planned, shape, shorten, unit};
 use crate::Outcome;
-use crate::answers::number;
+use crate::answers::{Handed, number};
 use crate::calls::Inspection;
 use crate::report::Tally;
 use crate::shelf::{LentNet, Shelf};
 use evaluator::calls;
 use evaluator::net::Multiplicities;
 use evaluator::random::Random;
-use evaluator::unit::Unit;
 
 const CHECKS: [u8; 3] = [3, 4, 14];
 
@@ -22,10 +21,10 @@ struct Case {
 
 impl Case {
     /// Makes the call; hands on the number that it must answer.
-    fn check(&self, unit: Unit, shelf: &Shelf, tally: &mut Tally) -> Outcome<u8> {
+    fn check(&self, unit: Handed, shelf: &Shelf, tally: &mut Tally) -> Outcome<u8> {
         let Case { v, net: lent, lengths: [length, lengths @ ..] } = self;
         let (v, lengths, net) = (*v, *lengths, lent.slice(shelf, *length));
-        let expected = calls::inspect(&unit, v, &net, lengths, |v| shelf.net(v));
+        let expected = calls::inspect(&unit.unit, v, &net, lengths, |v| shelf.net(v));
         Inspection { unit, v, net: &net, told: lent.to_string(), lengths }.check(&expected)?;
         tally.count(number(&expected));
         Ok(number(&expected))

@@ -15,7 +15,7 @@ pub fn run(seed: u64, count: usize, tally: &mut Tally) -> Outcome {
     each_plan(seed, count, &CHECKS, |plan, random| {
         let (file, lengths) = case(plan, random);
         let unit = unit(random);
-        let expected = field::load(&unit, &file, lengths);
+        let expected = field::load(&unit.unit, &file, lengths);
         plan.made(number(&expected))?;
         Load { unit, file: &file, lengths }.check(&expected)?;
         tally.count(number(&expected));

@@ -6,6 +6,7 @@ pub mod loads;
 pub mod points;
 
 use crate::Outcome;
+use crate::answers::Handed;
 use evaluator::net::Multiplicities;
 use evaluator::random::Random;
 use evaluator::unit::{Sizes, Unit};
@@ -122,8 +123,13 @@ pub fn break_sizes(n: &mut [u16; 3], random: &mut Random) {
     }
 }
 
+/// Bytes for flags that are not set.
+pub fn absent(random: &mut Random) -> [u8; 2] {
+    [0; 2].map(|_: u8| pick(random, &[0, 2, 88, 255]))
+}
+
 /// Flags and values that may or may not be within the limits.
-pub fn unit(random: &mut Random) -> Unit {
+pub fn unit(random: &mut Random) -> Handed {
     let mut unit = Unit::EMPTY.with_net(shape(random)).with_block(sizes([1; 3], random));
     if random.below(3) == 0 {
         break_multiplicities(&mut unit.v, random);
@@ -132,5 +138,5 @@ pub fn unit(random: &mut Random) -> Unit {
         break_sizes(&mut unit.n, random);
     }
     (unit.has_net, unit.has_block) = (random.below(3) > 0, random.below(3) > 0);
-    unit
+    Handed { unit, absent: absent(random) }
 }

@@ -20,7 +20,7 @@ fn build(mut words: Words, shelf: &Shelf, tally: &mut Tally) -> Outcome {
     let order = words.list(count)?;
     let expected = words.changed()?;
     let net = expected.ok().and_then(|unit| unit.net()).map_or(&[][..], |v| &shelf.net(v).numbers);
-    Build { unit, order: &order, lengths }.check(&expected, net)?;
+    Build { unit: unit.into(), order: &order, lengths }.check(&expected, net)?;
     tally.count(number(&expected));
     Ok(())
 }

@@ -26,7 +26,7 @@ fn inspect(mut words: Words, lent: &LentNet, shelf: &Shelf, tally: &mut Tally) -
     let net = lent.slice(shelf, words.number()?);
     let lengths = words.numbers()?;
     let expected = words.changed()?;
-    Inspection { unit, v, net: &net, told: lent.to_string(), lengths }.check(&expected)?;
+    Inspection { unit: unit.into(), v, net: &net, told: lent.to_string(), lengths }.check(&expected)?;
     tally.count(number(&expected));
     Ok(())
 }

@@ -37,7 +37,7 @@ fn load(mut words: Words, stored: &Stored, tally: &mut Tally) -> Outcome {
         let (corrections, uncertainties) = (stored.corrections.clone(), stored.uncertainties.clone());
         (unit, Block { sizes, corrections, uncertainties })
     });
-    Load { unit, file: &stored.file, lengths }.check(&expected)?;
+    Load { unit: unit.into(), file: &stored.file, lengths }.check(&expected)?;
     tally.count(number(&expected));
     Ok(())
 }

@@ -1,18 +1,13 @@
-//! The files of nets: digests of all, whole ones in clear, and prints of program `shares`.
+//! The files of nets: digests of all, and whole ones in clear.
 
 use super::text;
 use crate::Outcome;
-use crate::answers::{Changed, number};
 use crate::calls::Build;
 use crate::report::Tally;
 use crate::shelf::Shelf;
-use evaluator::calls;
 use evaluator::formats::{digest, join, listing};
 use evaluator::net::{Multiplicities, Net};
 use evaluator::unit::Unit;
-
-/// The longest net slice of program `shares`.
-const SHARES_PLACES: usize = 9261;
 
 /// The order in which document 01 takes up the repeats: all of 1, of 3, of 2, of 4.
 fn defined_order(v: Multiplicities) -> Vec<u8> {
@@ -20,7 +15,7 @@ fn defined_order(v: Multiplicities) -> Vec<u8> {
 }
 
 fn build(v: Multiplicities) -> Outcome<Net> {
-    let call = Build { unit: Unit::EMPTY, order: &defined_order(v), lengths: [v.places(); 2] };
+    let call = Build { unit: Unit::EMPTY.into(), order: &defined_order(v), lengths: [v.places(); 2] };
     let numbers = call.written(&Ok(Unit::EMPTY.with_net(v)), v.places())?;
     Ok(Net { multiplicities: v, numbers })
 }
@@ -52,32 +47,6 @@ pub fn whole(tally: &mut Tally) -> Outcome {
             return Err(format!("net {counts}: the listing is not the stored one"));
         }
         tally.count(0);
-    }
-    Ok(())
-}
-
-/// The program's print, from a build in slices of its length.
-fn print(order: &[u8], expected: &Changed) -> Outcome<String> {
-    let call = Build { unit: Unit::EMPTY, order, lengths: [SHARES_PLACES; 2] };
-    let Ok(unit) = expected else {
-        call.check(expected, &[])?;
-        return Ok(format!("refused {}\n", number(expected)));
-    };
-    let v = unit.net().expect("a built net");
-    Ok(listing(&Net { multiplicities: v, numbers: call.written(expected, v.places())? }))
-}
-
-/// Each order that `shares` was given, digit by digit, a byte that is no digit as 0.
-pub fn shares(tally: &mut Tally) -> Outcome {
-    let text = text("shares.txt")?;
-    for stored in text.split("order ").skip(1) {
-        let (typed, stored) = stored.split_once('\n').ok_or("an order without a print")?;
-        let order: Vec<u8> = typed.bytes().map(|b| if b.is_ascii_digit() { b - b'0' } else { 0 }).collect();
-        let expected = calls::build(&Unit::EMPTY, &order, [SHARES_PLACES; 2]);
-        if print(&order, &expected)? != stored {
-            return Err(format!("order {typed}: the print is not the stored one"));
-        }
-        tally.count(number(&expected));
     }
     Ok(())
 }

@@ -45,7 +45,7 @@ fn answered(words: &mut Words) -> Outcome<Answered> {
 }
 
 fn point(mut words: Words, scene: &Scene, shelf: &Shelf, tally: &mut Tally) -> Outcome {
-    let unit = words.unit()?;
+    let unit = words.unit()?.into();
     let [net, c, u] = words.numbers()?;
     let net = scene.net.slice(shelf, net);
     let (corrections, uncertainties) = (&scene.corrections[..c], &scene.uncertainties[..u]);

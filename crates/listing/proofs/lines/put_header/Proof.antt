@@ -1,3 +1,6 @@
+-- `put_header` meets its contract: the words and items come one after the other, in at most 22 bytes.
+use mathlib.Core.List.{List}
+use Prim.Native.Nat.{ℕ}
 use native.Mathlib.Omega.{arith}
 use borrow.Author.Needs.{needs}
 use denote.Ref.{now}
@@ -22,20 +25,37 @@ start-w3 c = start-w2 (c .before .before .before .before)
 abbrev start-degree : tie.After-put-word2 → tie.Start
 start-degree c = start-w3 (c .before .before .before .before .before)
 
-reached-box : (c : tie.After-put-word) → Reached (c .put-word .result) 4 (now (start-box c .args .out)) (c .put-word .last .0)
-reached-box c = put-reached 4 (reached-here (now (start-box c .args .out)) 0) (c .put-word .ensures) (omega arith)
+-- how far the text reaches in the slice as it was lent
+abbrev Within : tie.Start → ℕ → ℕ → List ℕ → Type 0
+Within s at most text = Reached at most (now (s .args .out)) text
 
-reached-w1 : (c : tie.After-put-item) → Reached (c .put-item .result) 7 (now (start-w1 c .args .out)) (c .put-item .last .0)
-reached-w1 c = put-reached 3 (reached-box (c .before .before .before .before)) (c .put-item .ensures) (item-length (start-w1 c .args .w1) 32 1 (start-w1 c .pre .0))
+reached-box : (c : tie.After-put-word) → Within (start-box c) (c .put-word .result) 4 (c .put-word .last .0)
+reached-box c =
+    put-reached 4 (reached-here (now (start-box c .args .out)) 0) (c .put-word .ensures) (omega arith)
 
-reached-w2 : (c : tie.After-put-item2) → Reached (c .put-item2 .result) 10 (now (start-w2 c .args .out)) (c .put-item2 .last .0)
-reached-w2 c = put-reached 3 (reached-w1 (c .before .before .before .before)) (c .put-item2 .ensures) (item-length (start-w2 c .args .w2) 32 1 (start-w2 c .pre .1))
+reached-w1 : (c : tie.After-put-item) → Within (start-w1 c) (c .put-item .result) 7 (c .put-item .last .0)
+reached-w1 c =
+    let s = start-w1 c in
+    put-reached 3 (reached-box (c .before .before .before .before)) (c .put-item .ensures)
+    (item-length (s .args .w1) 32 1 (s .pre .0))
 
-reached-w3 : (c : tie.After-put-item3) → Reached (c .put-item3 .result) 13 (now (start-w3 c .args .out)) (c .put-item3 .last .0)
-reached-w3 c = put-reached 3 (reached-w2 (c .before .before .before .before)) (c .put-item3 .ensures) (item-length (start-w3 c .args .w3) 32 1 (start-w3 c .pre .2))
+reached-w2 : (c : tie.After-put-item2) → Within (start-w2 c) (c .put-item2 .result) 10 (c .put-item2 .last .0)
+reached-w2 c =
+    let s = start-w2 c in
+    put-reached 3 (reached-w1 (c .before .before .before .before)) (c .put-item2 .ensures)
+    (item-length (s .args .w2) 32 1 (s .pre .1))
 
-reached-degree : (c : tie.After-put-word2) → Reached (c .put-word2 .result) 20 (now (start-degree c .args .out)) (c .put-word2 .last .0)
-reached-degree c = put-reached 7 (reached-w3 (c .before .before .before .before .before)) (c .put-word2 .ensures) (omega arith)
+reached-w3 : (c : tie.After-put-item3) → Within (start-w3 c) (c .put-item3 .result) 13 (c .put-item3 .last .0)
+reached-w3 c =
+    let s = start-w3 c in
+    put-reached 3 (reached-w2 (c .before .before .before .before)) (c .put-item3 .ensures)
+    (item-length (s .args .w3) 32 1 (s .pre .2))
+
+reached-degree : (c : tie.After-put-word2)
+    → Within (start-degree c) (c .put-word2 .result) 20 (c .put-word2 .last .0)
+reached-degree c =
+    let r = reached-w3 (c .before .before .before .before .before) in
+    put-reached 7 r (c .put-word2 .ensures) (omega arith)
 
 slice-aggregate-put-word : tie.Need-slice-aggregate-put-word
 slice-aggregate-put-word c = search needs
@@ -65,7 +85,9 @@ slice-aggregate-put-word-2 : tie.Need-slice-aggregate-put-word-2
 slice-aggregate-put-word-2 c = search needs
 
 put-word-requires-2 : tie.Need-put-word-requires-2
-put-word-requires-2 c κs = omega (arith, start-w3 (c .before .before .before .before) .pre .4, reached-w3 (c .before .before .before .before))
+put-word-requires-2 c κs =
+    let b = c .before .before .before .before in
+    omega (arith, start-w3 b .pre .4, reached-w3 b)
 
 put-item-requires-4 : tie.Need-put-item-requires-4
 put-item-requires-4 c κs =
@@ -84,8 +106,10 @@ returns c =
     let w2 = w3 .before .before .before .before in
     let w1 = w2 .before .before .before .before in
     let s = start-degree d in
-    let p = c .before .before .put-item4 .ensures in (
-      put-then (put-then (put-then (put-then (put-then (w1 .before .before .before .before .put-word .ensures) (w1 .put-item .ensures)) (w2 .put-item2 .ensures)) (w3 .put-item3 .ensures)) (d .put-word2 .ensures)) p,
+    let p = c .before .before .put-item4 .ensures in
+    let t1 = put-then (w1 .before .before .before .before .put-word .ensures) (w1 .put-item .ensures) in
+    let t3 = put-then (put-then t1 (w2 .put-item2 .ensures)) (w3 .put-item3 .ensures) in (
+      put-then (put-then t3 (d .put-word2 .ensures)) p,
       omega (arith, put-reached 2 (reached-degree d) p (item-length (s .args .m) 10 0 (s .pre .3))),
     )
 

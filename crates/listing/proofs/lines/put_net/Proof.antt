@@ -1,3 +1,4 @@
+-- `put_net` meets its contract: the shape is the net's, and the places' lines follow the line of the box.
 use mathlib.Core.List.{List}
 use mathlib.Core.Path.{_∙_, _≡_, ap, subst, sym}
 use Prim.Native.Nat.{_*_, _+_, _<_, _≤_, ℕ}
@@ -7,14 +8,15 @@ use lib.ListN.{getD, length}
 use denote.Ref.{now}
 use Rattle.spline.specs.Box.{places, width}
 use Rattle.unit.specs.Unit.{netOf}
-use Rattle.shape.proofs.Shapes.{limited-boxed}
-use Rattle.shape.specs.Shape.{Boxed, shapeOf}
-use Rattle.shape.specs.declared.Counts.{Counts}
+use Rattle.shape.proofs.Shapes.{limits-boxed}
+use Rattle.shape.specs.Inner.Boxes.{Boxed}
+use Rattle.shape.specs.Shape.{shapeOf}
 use Rattle.shape.specs.declared.Shape.{Shape}
 use Rattle.listing.proofs.Printed.{net-lines}
 use Rattle.listing.proofs.Texts.{put-length, put-then}
 use Rattle.listing.proofs.lines.put_net.Statement.{statement}
-use Rattle.listing.specs.Text.{Put}
+use Rattle.listing.specs.Inner.Put.{Put}
+use Rattle.listing.specs.Print.{headerText, placesText}
 use Rattle.listing.proofs.lines.put_net.Tie as tie
 
 -- once the shape is computed
@@ -29,11 +31,10 @@ module _ (c : tie.After-shape-of) where
   shape-is = c .shape-of .ensures .0 ∙ ap shapeOf (c .before .of-unit .ensures)
 
   boxed : Boxed found
-  boxed =
-      let u = start .args .unit in
-      let l = start .pre in
-      let k : Counts = record { v1 = u .v1; v2 = u .v2; v3 = u .v3; v4 = u .v4 } in
-      subst Boxed (sym shape-is) (limited-boxed k (record { least1 = l .least1; least2 = l .least2; least3 = l .least3; least4 = l .least4; most = l .most }))
+  boxed = subst Boxed (sym shape-is) (limits-boxed (netOf (start .args .unit)) (start .pre .limits))
+
+  abbrev header : List ℕ
+  header = headerText (found .w1) (found .w2) (found .w3) (found .m)
 
   same-places : found .w1 * found .w2 * found .w3 ≡ places (width (netOf (start .args .unit)))
   same-places = ap (λ (s : Shape). s .w1 * s .w2 * s .w3) shape-is
@@ -49,8 +50,13 @@ shape-of-requires c κs = search needs
 
 put-header-requires : tie.Need-put-header-requires
 put-header-requires c κs =
-    let b = boxed (c .before) in
-    (omega (arith, b .most1), omega (arith, b .most2), omega (arith, b .most3), omega (arith, b .degree-most), omega (arith, room (c .before)))
+    let b = boxed (c .before) in (
+      omega (arith, b .most1),
+      omega (arith, b .most2),
+      omega (arith, b .most3),
+      omega (arith, b .degree-most),
+      omega (arith, room (c .before)),
+    )
 
 put-places-requires : tie.Need-put-places-requires
 put-places-requires c κs =
@@ -63,7 +69,7 @@ put-places-requires c κs =
       most3 = boxed g .most3;
       held = subst (λ (n : ℕ). n ≤ length (now (s .args .net))) (sym (same-places g)) (s .pre .held);
       small = λ i l. s .pre .small i (subst (λ (n : ℕ). i < n) (same-places g) l);
-      fits = omega (arith, room g, h .1, put-length (h .0));
+      fits = omega (arith, room g, h .1, put-length {u = header g} (h .0));
     }
 
 same-length : tie.Need-same-length
@@ -74,11 +80,13 @@ returns c =
     let g = c .before .before .before .before .before .before .before .before in
     let s = start g in
     let h = c .before .before .before .before .before .before .put-header .ensures in
-    let p = c .before .before .put-places in (
+    let p = c .before .before .put-places in
+    let f : ℕ → ℕ = λ i. getD (now (s .args .net)) i 0 in
+    let lines = placesText (found g .w1) (found g .w2) (found g .w3) f in (
       subst (λ (t : List ℕ). Put t (now (s .args .out)) (p .last .0) 0 (p .result))
-          (net-lines (netOf (s .args .unit)) (λ (i : ℕ). getD (now (s .args .net)) i 0) (found g) (shape-is g))
-          (put-then (h .0) (p .ensures .0)),
-      omega (arith, p .ensures .1, put-length (h .0)),
+          (net-lines (netOf (s .args .unit)) f (found g) (shape-is g))
+          (put-then {u = header g} {v = lines} (h .0) (p .ensures .0)),
+      omega (arith, p .ensures .1, put-length {u = header g} (h .0)),
     )
 
 pub put-net-spec : {M : Type 1} → statement M

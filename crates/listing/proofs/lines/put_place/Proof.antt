@@ -1,4 +1,6 @@
-use Prim.Native.Nat.{_+_}
+-- `put_place` meets its contract: nothing is put for a 0, else four items of at most 16 bytes together.
+use mathlib.Core.List.{List}
+use Prim.Native.Nat.{_+_, ℕ}
 use native.Mathlib.Omega.{arith}
 use borrow.Author.Needs.{needs}
 use borrow.Author.Tests.{eq-eqb, ne-eqb}
@@ -18,20 +20,30 @@ start-y c = start-x (c .before .before .before .before)
 abbrev start-z : tie.After-put-item3 → tie.Start
 start-z c = start-y (c .before .before .before .before)
 
-reached-x : (c : tie.After-put-item) → Reached (c .put-item .result) (start-x c .args .at + 3) (now (start-x c .args .out)) (c .put-item .last .0)
+-- how far the text reaches in the slice as it was lent
+abbrev Within : tie.Start → ℕ → ℕ → List ℕ → Type 0
+Within s at most text = Reached at most (now (s .args .out)) text
+
+reached-x : (c : tie.After-put-item)
+    → Within (start-x c) (c .put-item .result) (start-x c .args .at + 3) (c .put-item .last .0)
 reached-x c =
     let s = start-x c in
-    put-reached 3 (reached-here (now (s .args .out)) (s .args .at)) (c .put-item .ensures) (item-length (s .args .x) 32 1 (s .pre .0))
+    put-reached 3 (reached-here (now (s .args .out)) (s .args .at)) (c .put-item .ensures)
+    (item-length (s .args .x) 32 1 (s .pre .0))
 
-reached-y : (c : tie.After-put-item2) → Reached (c .put-item2 .result) (start-y c .args .at + 3 + 3) (now (start-y c .args .out)) (c .put-item2 .last .0)
+reached-y : (c : tie.After-put-item2)
+    → Within (start-y c) (c .put-item2 .result) (start-y c .args .at + 3 + 3) (c .put-item2 .last .0)
 reached-y c =
     let s = start-y c in
-    put-reached 3 (reached-x (c .before .before .before .before)) (c .put-item2 .ensures) (item-length (s .args .y) 32 1 (s .pre .1))
+    put-reached 3 (reached-x (c .before .before .before .before)) (c .put-item2 .ensures)
+    (item-length (s .args .y) 32 1 (s .pre .1))
 
-reached-z : (c : tie.After-put-item3) → Reached (c .put-item3 .result) (start-z c .args .at + 3 + 3 + 3) (now (start-z c .args .out)) (c .put-item3 .last .0)
+reached-z : (c : tie.After-put-item3)
+    → Within (start-z c) (c .put-item3 .result) (start-z c .args .at + 3 + 3 + 3) (c .put-item3 .last .0)
 reached-z c =
     let s = start-z c in
-    put-reached 3 (reached-y (c .before .before .before .before)) (c .put-item3 .ensures) (item-length (s .args .z) 32 1 (s .pre .2))
+    put-reached 3 (reached-y (c .before .before .before .before)) (c .put-item3 .ensures)
+    (item-length (s .args .z) 32 1 (s .pre .2))
 
 returns : tie.Need-returns
 unfolding placeText
@@ -72,8 +84,9 @@ returns-2 c =
     let y = z .before .before .before .before in
     let x = y .before .before .before .before in
     let s = start-x x in
-    let p = c .before .before .put-item4 .ensures in (
-      rw (ne-eqb (s .args .number) 0 (x .before .before .if1 .left)) (put-then (put-then (put-then (x .put-item .ensures) (y .put-item2 .ensures)) (z .put-item3 .ensures)) p),
+    let p = c .before .before .put-item4 .ensures in
+    let t = put-then (put-then (x .put-item .ensures) (y .put-item2 .ensures)) (z .put-item3 .ensures) in (
+      rw (ne-eqb (s .args .number) 0 (x .before .before .if1 .left)) (put-then t p),
       omega (arith, put-reached 7 (reached-z z) p (item-length (s .args .number) 10 5 (s .pre .3))),
     )
 

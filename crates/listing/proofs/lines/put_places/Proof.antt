@@ -1,3 +1,4 @@
+-- `put_places` meets its contract: before turn i the lines of i places are put, of at most 16 bytes each.
 use mathlib.Core.List.{List}
 use mathlib.Core.Path.{subst}
 use Prim.Native.Nat.{_%_, _*_, _+_, _-_, _/_, _<_, _≤_, ℕ}
@@ -8,8 +9,9 @@ use denote.Ref.{now}
 use Rattle.sums.proofs.Places.{box-le, place-in}
 use Rattle.listing.proofs.Texts.{put-joined-next, put-joined-none, put-length}
 use Rattle.listing.proofs.lines.put_places.Statement.{statement}
-use Rattle.listing.specs.Print.{placeText}
-use Rattle.listing.specs.Text.{Put, joined}
+use Rattle.listing.specs.Print.{placeText, placesText}
+use Rattle.listing.specs.Inner.Put.{Put}
+use Rattle.listing.specs.Text.{joined}
 use Rattle.listing.proofs.lines.put_places.Tie as tie
 
 -- the line of an index
@@ -17,7 +19,8 @@ abbrev line : List ℕ → ℕ → ℕ → ℕ → List ℕ
 line net w1 w2 i = placeText (i % w1) (i / w1 % w2) (i / w1 / w2) (getD net i 0)
 
 abbrev Inv-loop : tie.InvT-loop
-Inv-loop out₀ start net w1 w2 w3 n at₀ i₀ out at i = (i ≤ n) × Put (joined (line net w1 w2) i) out₀ out start at × (at ≤ start + 16 * i)
+Inv-loop out₀ start net w1 w2 w3 n at₀ i₀ out at i =
+    (i ≤ n) × Put (joined (line net w1 w2) i) out₀ out start at × (at ≤ start + 16 * i)
 
 abbrev μ-loop : tie.MeasureT-loop
 μ-loop out₀ start net w1 w2 w3 n at₀ i₀ out at i = n - i
@@ -33,11 +36,20 @@ module _ (c : tie.In-loop Inv-loop μ-loop) where
   abbrev index : ℕ
   index = c .before .loop .i
 
-  inside : index < start .args .w1 * start .args .w2 * start .args .w3
+  abbrev w1 : ℕ
+  w1 = start .args .w1
+
+  abbrev w2 : ℕ
+  w2 = start .args .w2
+
+  abbrev w3 : ℕ
+  w3 = start .args .w3
+
+  inside : index < w1 * w2 * w3
   inside = omega arith
 
-  within : (index % start .args .w1 < start .args .w1) × (index / start .args .w1 % start .args .w2 < start .args .w2) × (index / start .args .w1 / start .args .w2 < start .args .w3)
-  within = place-in (start .args .w1) (start .args .w2) (start .args .w3) index inside
+  within : (index % w1 < w1) × (index / w1 % w2 < w2) × (index / w1 / w2 < w3)
+  within = place-in w1 w2 w3 index inside
 
 mul-n : tie.Need-mul-n Inv-loop μ-loop
 mul-n c =
@@ -51,7 +63,8 @@ mul-n-2 c = omega (arith, most (c .before .before))
 loop-holds : tie.Need-loop-holds Inv-loop μ-loop
 loop-holds c =
     let a = c .before .before .args in
-    (omega arith, put-joined-none (line (now (a .net)) (a .w1) (a .w2)) (now (a .out)) (a .start), omega arith)
+    let f = line (now (a .net)) (a .w1) (a .w2) in
+    (omega arith, put-joined-none f (now (a .out)) (a .start), omega arith)
 
 div-q : tie.Need-div-q Inv-loop μ-loop
 div-q c = omega (arith, within c .0)
@@ -69,42 +82,52 @@ mul-put-place : tie.Need-mul-put-place Inv-loop μ-loop
 mul-put-place c = omega (arith, inside (c .before), most (c .before .before .before .before .before))
 
 shared-slice-read-put-place : tie.Need-shared-slice-read-put-place Inv-loop μ-loop
-shared-slice-read-put-place c = omega (arith, inside (c .before .before), c .before .before .before .before .before .before .pre .held)
+shared-slice-read-put-place c =
+    let turn = c .before .before in
+    omega (arith, inside turn, start turn .pre .held)
 
 put-place-requires : tie.Need-put-place-requires Inv-loop μ-loop
 put-place-requires c κs =
-    let s = c .before .before .before .before .before .before in
-    let l = c .before .before .before .loop in
-    let w = within (c .before .before) in (
+    let turn = c .before .before in
+    let s = start turn in
+    let l = turn .before .loop in
+    let w = within turn in (
       omega (arith, w .0, s .pre .most1),
       omega (arith, w .1, s .pre .most2),
       omega (arith, w .2, s .pre .most3),
-      s .pre .small (l .i) (inside (c .before .before)),
-      omega (arith, l .inv .2, inside (c .before .before), put-length (l .inv .1), s .pre .fits),
+      s .pre .small (l .i) (inside turn),
+      omega (arith, l .inv .2, inside turn, put-length (l .inv .1), s .pre .fits),
     )
 
 add-i : tie.Need-add-i Inv-loop μ-loop
-add-i c = omega (arith, inside (c .before .before .before .before .before), most (c .before .before .before .before .before .before .before .before .before))
+add-i c =
+    let turn = c .before .before .before .before .before in
+    omega (arith, inside turn, most (start turn))
 
 loop-less : tie.Need-loop-less Inv-loop μ-loop
 loop-less c = omega (arith, inside (c .before .before .before .before .before))
 
 loop-again : tie.Need-loop-again Inv-loop μ-loop
 loop-again c =
-    let a = c .before .before .before .before .before .before .before .before .before .args in
-    let l = c .before .before .before .before .before .before .loop in
+    let turn = c .before .before .before .before .before in
+    let l = turn .before .loop in
     let p = c .before .before .put-place .ensures in
-    (omega (arith, inside (c .before .before .before .before .before)), put-joined-next (line (now (a .net)) (a .w1) (a .w2)) (l .i) (l .inv .1) (p .0), omega (arith, l .inv .2, p .1))
+    let f = line (now (start turn .args .net)) (w1 turn) (w2 turn) in
+    (omega (arith, inside turn), put-joined-next f (l .i) (l .inv .1) (p .0), omega (arith, l .inv .2, p .1))
 
 same-length : tie.Need-same-length Inv-loop μ-loop
 same-length c = put-length (c .before .loop .inv .1)
 
 returns : tie.Need-returns Inv-loop μ-loop
+unfolding placesText
 returns c =
     let s = c .before .before .before .before in
     let a = s .args in
-    let l = c .before .loop in (
-      subst (λ (n : ℕ). Put (joined (line (now (a .net)) (a .w1) (a .w2)) n) (now (a .out)) (l .out) (a .start) (l .at)) (le-antisymm (l .inv .0) (c .loop-test .left)) (l .inv .1),
+    let l = c .before .loop in
+    let f = line (now (a .net)) (a .w1) (a .w2) in (
+      subst (λ (n : ℕ). Put (joined f n) (now (a .out)) (l .out) (a .start) (l .at))
+          (le-antisymm (l .inv .0) (c .loop-test .left))
+          (l .inv .1),
       omega (arith, l .inv .0, l .inv .2, s .pre .fits),
     )
 

@@ -1,3 +1,4 @@
+-- `put_refusal` meets its contract: the word takes eight bytes and the number at most eleven, so nineteen do.
 use Prim.Native.Nat.{_<_, _^_, _≤_}
 use native.Mathlib.Omega.{arith}
 use borrow.Author.Needs.{needs}
@@ -10,7 +11,12 @@ use Rattle.listing.proofs.lines.put_refusal.Tie as tie
 
 -- a 32-bit number has at most ten digits
 number-length : (s : tie.Start) → length (item (s .args .refusal .number) 10) ≤ 11
-number-length s = let h : s .args .refusal .number < 10 ^ 10 = omega arith in item-length (s .args .refusal .number) 10 9 h
+number-length s =
+    let h : s .args .refusal .number < 10 ^ 10 = omega arith in
+    item-length (s .args .refusal .number) 10 9 h
+
+abbrev start : tie.After-put-word → tie.Start
+start c = c .before .before .before .before
 
 slice-aggregate-put-word : tie.Need-slice-aggregate-put-word
 slice-aggregate-put-word c = search needs
@@ -23,9 +29,9 @@ cast-put-item c = search needs
 
 put-item-requires : tie.Need-put-item-requires
 put-item-requires c κs =
-    let s = c .before .before .before .before .before .before .before .before in
-    let p = c .before .before .before .before .put-word .ensures in
-    omega (arith, s .pre, p .goes-on, put-length p, number-length s)
+    let w = c .before .before .before .before in
+    let p = w .put-word .ensures in
+    omega (arith, start w .pre, p .goes-on, put-length p, number-length (start w))
 
 same-length : tie.Need-same-length
 same-length c = search needs
@@ -33,9 +39,10 @@ same-length c = search needs
 returns : tie.Need-returns
 unfolding refusedText
 returns c =
-    let w = c .before .before .before .before .before .before .before .put-word .ensures in
+    let w = c .before .before .before .before .before .before .before in
+    let u = w .put-word .ensures in
     let p = c .before .before .put-item .ensures in
-    (put-then w p, omega (arith, c .before .before .before .before .before .before .before .before .before .before .before .pre, w .goes-on, p .goes-on, number-length (c .before .before .before .before .before .before .before .before .before .before .before)))
+    (put-then u p, omega (arith, start w .pre, u .goes-on, p .goes-on, number-length (start w)))
 
 pub put-refusal-spec : {M : Type 1} → statement M
 put-refusal-spec =

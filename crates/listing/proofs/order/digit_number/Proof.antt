@@ -1,3 +1,4 @@
+-- `digit_number` meets its contract: what is below or above the digits is 0.
 use native.Mathlib.Omega.{arith}
 use borrow.Author.Tests.{le-leb, lt-leb}
 use Rattle.listing.proofs.order.digit_number.Statement.{statement}

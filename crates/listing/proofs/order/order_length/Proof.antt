@@ -1,3 +1,4 @@
+-- `order_length` meets its contract: the last byte is looked at where there is one.
 use mathlib.Core.Path.{sym}
 use Prim.Native.Nat.{_-_}
 use native.Mathlib.Omega.{arith}
@@ -5,7 +6,7 @@ use borrow.Author.Needs.{needs}
 use borrow.Author.Tests.{eq-eqb, ne-eqb}
 use lib.ListN.{getD, length}
 use denote.Ref.{now}
-use Rattle.listing.proofs.Typed.{order-length-none}
+use Rattle.listing.proofs.Orders.{order-length-none}
 use Rattle.listing.proofs.order.order_length.Statement.{statement}
 use Rattle.listing.specs.Order.{orderLength}
 use Rattle.listing.proofs.order.order_length.Tie as tie

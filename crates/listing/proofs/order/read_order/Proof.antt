@@ -1,3 +1,4 @@
+-- `read_order` meets its contract: before turn i the numbers of the first i bytes are stored.
 use mathlib.Core.List.{List}
 use mathlib.Core.Path.{_∙_, _≡_, ap, refl, sym}
 use Prim.Native.Nat.{_-_, _≤_, ℕ}
@@ -15,7 +16,8 @@ abbrev number : List ℕ → ℕ → ℕ
 number typed i = digitNumber (getD typed i 0)
 
 abbrev Inv-loop : tie.InvT-loop
-Inv-loop typed n order₀ i₀ order i = (i ≤ n) × (order ≡ filled (number typed) i order₀) × (length order ≡ length order₀)
+Inv-loop typed n order₀ i₀ order i =
+    (i ≤ n) × (order ≡ filled (number typed) i order₀) × (length order ≡ length order₀)
 
 abbrev μ-loop : tie.MeasureT-loop
 μ-loop typed n order₀ i₀ order i = n - i
@@ -41,9 +43,11 @@ loop-less c = omega arith
 loop-again : tie.Need-loop-again Inv-loop μ-loop
 loop-again c =
     let l = c .before .before .before .loop in
-    let a = c .before .before .before .before .before .before .args in (
+    let f = number (now (c .before .before .before .before .before .before .args .typed)) in
+    let d = c .digit-number in (
       omega arith,
-      ap (λ (s : List ℕ). set s (l .i) (c .digit-number .result)) (l .inv .1) ∙ fill-store (number (now (a .typed))) (l .i) _ (c .digit-number .result) (omega arith) (c .digit-number .ensures),
+      ap (λ (s : List ℕ). set s (l .i) (d .result)) (l .inv .1)
+          ∙ fill-store f (l .i) _ (d .result) (omega arith) (d .ensures),
       simp length-set (l .inv .2),
     )
 
@@ -53,7 +57,9 @@ same-length c = c .before .loop .inv .2
 returns : tie.Need-returns Inv-loop μ-loop
 returns c =
     let a = c .before .before .before .before .args in
-    c .before .loop .inv .1 ∙ ap (λ (k : ℕ). filled (number (now (a .typed))) k (now (a .order))) (le-antisymm (c .before .loop .inv .0) (c .loop-test .left))
+    let l = c .before .loop in
+    let f = number (now (a .typed)) in
+    l .inv .1 ∙ ap (λ (k : ℕ). filled f k (now (a .order))) (le-antisymm (l .inv .0) (c .loop-test .left))
 
 pub read-order-spec : {M : Type 1} → statement M
 read-order-spec =

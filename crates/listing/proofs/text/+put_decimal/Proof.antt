@@ -1,3 +1,4 @@
+-- `put_decimal` meets its contract: a digit is stored, and a larger number's last after those of its tenth.
 use mathlib.Core.List.{[], _∷_}
 use mathlib.Core.Path.{ap}
 use Prim.Native.Nat.{_%_, _+_, _/_, _<_, _≤_, ℕ}
@@ -6,7 +7,8 @@ use borrow.Fn.Kinds.{In}
 use borrow.Fn.PlainCycle.{Measures, and, falls, is}
 use lib.ListN.{length, length-append, length-set}
 use denote.Ref.{now}
-use Rattle.listing.proofs.Texts.{decimal-large, decimal-small, put-byte, put-length, put-then, tenth-less}
+use Rattle.listing.proofs.Texts.{decimal-large, decimal-small, tenth-less}
+use Rattle.listing.proofs.Texts.{put-byte, put-length, put-then}
 use Rattle.listing.proofs.text.+put_decimal.{statement}
 use Rattle.listing.proofs.text.+put_decimal.Tie.{close}
 use Rattle.listing.specs.Text.{decimal}
@@ -52,13 +54,16 @@ module _ (t : ℕ) where
   returns : lts.Need-returns claims given reads.Post
   returns c =
       let s = c .before .before in
-      rw (decimal-small (s .args .n) (c .if1 .taken)) (put-byte (now (s .args .text)) (s .args .at) (48 + s .args .n))
+      let a = s .args in
+      rw (decimal-small (a .n) (c .if1 .taken)) (put-byte (now (a .text)) (a .at) (48 + a .n))
 
   put-decimal-requires : lts.Need-put-decimal-requires claims given reads.Post
   put-decimal-requires c κs =
       let s = c .before .before .before in
       let n = s .args .n in
-      (omega (arith, s .pre .0, tenth-less n (c .before .if1 .left)), omega (arith, last-fits n (s .args .at) _ (c .before .if1 .left) (s .pre .1)))
+      let large = c .before .if1 .left in
+      let fits = last-fits n (s .args .at) _ large (s .pre .1) in
+      (omega (arith, s .pre .0, tenth-less n large), omega (arith, fits))
 
   cast-text-2 : lts.Need-cast-text-2 claims given reads.Post
   cast-text-2 c = omega arith
@@ -70,13 +75,17 @@ module _ (t : ℕ) where
   slice-write-text-2 c =
       let p = c .before .before .put-decimal .ensures in
       let s = c .before .before .before .before .before .before in
-      omega (arith, last-fits (s .args .n) (s .args .at) _ (c .before .before .before .before .if1 .left) (s .pre .1), p .goes-on, put-length p)
+      let large = c .before .before .before .before .if1 .left in
+      let fits = last-fits (s .args .n) (s .args .at) _ large (s .pre .1) in
+      omega (arith, fits, p .goes-on, put-length p)
 
   add-result-2 : lts.Need-add-result-2 claims given reads.Post
   add-result-2 c =
       let p = c .before .before .put-decimal .ensures in
       let s = c .before .before .before .before .before .before in
-      omega (arith, last-fits (s .args .n) (s .args .at) _ (c .before .before .before .before .if1 .left) (s .pre .1), p .goes-on)
+      let large = c .before .before .before .before .if1 .left in
+      let fits = last-fits (s .args .n) (s .args .at) _ large (s .pre .1) in
+      omega (arith, fits, p .goes-on)
 
   same-length-2 : lts.Need-same-length-2 claims given reads.Post
   same-length-2 c = simp length-set (c .before .before .put-decimal .kept .0)
@@ -85,7 +94,8 @@ module _ (t : ℕ) where
   returns-2 c =
       let p = c .before .before .put-decimal in
       let s = c .before .before .before .before .before .before in
-      rw (decimal-large (s .args .n) (c .before .before .before .before .if1 .left)) (put-then (p .ensures) (put-byte (p .last .0) (p .result) (48 + s .args .n % 10)))
+      rw (decimal-large (s .args .n) (c .before .before .before .before .if1 .left))
+      (put-then (p .ensures) (put-byte (p .last .0) (p .result) (48 + s .args .n % 10)))
 
 pub +put-decimal-spec : {M : Type 1} → statement M
 +put-decimal-spec =

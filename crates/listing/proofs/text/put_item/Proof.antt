@@ -1,3 +1,4 @@
+-- `put_item` meets its contract: the byte is stored where the number ends.
 use mathlib.Core.List.{[], _∷_}
 use Prim.Native.Nat.{_+_, _<_, _≤_, ℕ}
 use native.Mathlib.Omega.{arith}
@@ -26,7 +27,8 @@ slice-write-text c =
 add-result : tie.Need-add-result
 add-result c =
     let s = c .before .before .before .before .before in
-    omega (arith, end-fits (s .args .n) (s .args .end) (s .args .at) _ (s .pre), c .before .before .put-decimal .ensures .goes-on)
+    let p = c .before .before .put-decimal .ensures in
+    omega (arith, end-fits (s .args .n) (s .args .end) (s .args .at) _ (s .pre), p .goes-on)
 
 same-length : tie.Need-same-length
 same-length c = search needs
@@ -35,7 +37,8 @@ returns : tie.Need-returns
 unfolding item
 returns c =
     let p = c .before .before .put-decimal in
-    put-then (p .ensures) (put-byte (p .last .0) (p .result) (c .before .before .before .before .before .args .end))
+    let s = c .before .before .before .before .before in
+    put-then (p .ensures) (put-byte (p .last .0) (p .result) (s .args .end))
 
 pub put-item-spec : {M : Type 1} → statement M
 put-item-spec = tie.close (tie.spec put-decimal-requires slice-write-text add-result same-length returns)

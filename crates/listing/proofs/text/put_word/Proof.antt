@@ -1,3 +1,4 @@
+-- `put_word` meets its contract: before turn j the first j bytes of the word are put.
 use mathlib.Core.List.{List}
 use mathlib.Core.Path.{_∙_, _≡_, ap, refl, subst, sym}
 use Prim.Native.Nat.{_+_, _-_, _≤_, ℕ}
@@ -8,7 +9,7 @@ use lib.Seq.{length-sets, sets}
 use denote.Ref.{now}
 use Rattle.listing.proofs.Texts.{put-next, put-whole}
 use Rattle.listing.proofs.text.put_word.Statement.{statement}
-use Rattle.listing.specs.Text.{Put}
+use Rattle.listing.specs.Inner.Put.{Put}
 use Rattle.listing.proofs.text.put_word.Tie as tie
 
 abbrev Inv-loop : tie.InvT-loop
@@ -43,7 +44,8 @@ loop-again c =
     let l = c .before .before .loop in
     let a = c .before .before .before .args in
     let v = getD (now (a .word)) (l .j) 0 in
-    (omega arith, ap (λ (s : List ℕ). set s (a .at + l .j) v) (l .inv .1) ∙ put-next (now (a .text)) (now (a .word)) (a .at) (l .j) (omega arith))
+    let next = put-next (now (a .text)) (now (a .word)) (a .at) (l .j) (omega arith) in
+    (omega arith, ap (λ (s : List ℕ). set s (a .at + l .j) v) (l .inv .1) ∙ next)
 
 add-result : tie.Need-add-result Inv-loop μ-loop
 add-result c = omega arith

@@ -1,3 +1,4 @@
+-- The order is checked first; past that, its places are counted and compared with the two lengths.
 use mathlib.Core.List.{List}
 use mathlib.Core.Path.{_∙_, _≡_, ap, sym}
 use Prim.Native.Nat.{_<_, _≤_, ℕ}
@@ -26,8 +27,19 @@ module _ (c : tie.After-places-of) where
   abbrev told : tie.After-enum-told
   told = c .before .before
 
-  room : c .places-of .result ≡ orderPlaces (order told)
-  room = c .places-of .ensures ∙ ap (λ (v : Multiplicities). places (width v)) (c .before .counts-of .ensures .0)
+  abbrev n : ℕ
+  n = orderPlaces (order told)
+
+  abbrev net : ℕ
+  net = told .before .before .before .before .args .net
+
+  abbrev work : ℕ
+  work = told .before .before .before .before .args .work
+
+  room : c .places-of .result ≡ n
+  room =
+      c .places-of .ensures
+      ∙ ap (λ (v : Multiplicities). places (width v)) (c .before .counts-of .ensures .0)
 
 check-order-requires : tie.Need-check-order-requires
 check-order-requires c κs = search needs
@@ -55,9 +67,8 @@ returns-2 : tie.Need-returns-2
 unfolding buildChecks
 returns-2 c =
     let r = c .before .before in
-    let a = told r .before .before .before .before .args in
-    let f : a .net < orderPlaces (order (told r)) = omega (arith, room r) in
-    simp (passed (told r), lt-ltb (a .net) (orderPlaces (order (told r))) f) (c .stop .ensures)
+    let f : net r < n r = omega (arith, room r) in
+    simp (passed (told r), lt-ltb (net r) (n r) f) (c .stop .ensures)
 
 stop-requires-2 : tie.Need-stop-requires-2
 stop-requires-2 c κs = search needs
@@ -66,19 +77,17 @@ returns-3 : tie.Need-returns-3
 unfolding buildChecks
 returns-3 c =
     let r = c .before .before .before in
-    let a = told r .before .before .before .before .args in
-    let f : orderPlaces (order (told r)) ≤ a .net = omega (arith, room r) in
-    let g : a .work < orderPlaces (order (told r)) = omega (arith, room r) in
-    simp (passed (told r), le-ltb (a .net) (orderPlaces (order (told r))) f, lt-ltb (a .work) (orderPlaces (order (told r))) g) (c .stop2 .ensures)
+    let f : n r ≤ net r = omega (arith, room r) in
+    let g : work r < n r = omega (arith, room r) in
+    simp (passed (told r), le-ltb (net r) (n r) f, lt-ltb (work r) (n r) g) (c .stop2 .ensures)
 
 returns-4 : tie.Need-returns-4
 unfolding buildChecks
 returns-4 c =
     let r = c .before .before in
-    let a = told r .before .before .before .before .args in
-    let f : orderPlaces (order (told r)) ≤ a .net = omega (arith, room r) in
-    let g : orderPlaces (order (told r)) ≤ a .work = omega (arith, room r) in
-    simp (passed (told r), le-ltb (a .net) (orderPlaces (order (told r))) f, le-ltb (a .work) (orderPlaces (order (told r))) g)
+    let f : n r ≤ net r = omega (arith, room r) in
+    let g : n r ≤ work r = omega (arith, room r) in
+    simp (passed (told r), le-ltb (net r) (n r) f, le-ltb (work r) (n r) g)
 
 pub check-build-spec : {M : Type 1} → statement M
 check-build-spec =

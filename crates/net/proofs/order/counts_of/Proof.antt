@@ -1,5 +1,6 @@
+-- After t turns the counts are those of the first t bytes.
 use mathlib.Core.Path.{_∙_, _≡_, ap, refl, sym}
-use Prim.Native.Nat.{_-_, _≤_, ℕ}
+use Prim.Native.Nat.{_+_, _-_, _≤_, ℕ}
 use native.Mathlib.Nat.{le-antisymm}
 use native.Mathlib.Omega.{arith}
 use lib.ListN.{getD, length, take}
@@ -30,7 +31,8 @@ one-more-requires c κs =
     let o = now (s .args .order) in
     let l = c .before .before .loop in
     let g = good-byte o (s .pre) (l .t) (omega arith) in
-    (g .0, g .1, prefix-limits o (l .t) (l .c) 11 (l .inv .1) (omega arith) (omega (arith, s .pre .short)))
+    let few : 4 + l .t ≤ 11 = omega (arith, s .pre .short) in
+    (g .0, g .1, prefix-limits o (l .t) 11 (counted (l .c)) (l .inv .1) (omega arith) few)
 
 add-t : tie.Need-add-t Inv-loop μ-loop
 add-t c = omega arith
@@ -42,15 +44,19 @@ loop-again : tie.Need-loop-again Inv-loop μ-loop
 loop-again c =
     let o = now (c .before .before .before .before .before .args .order) in
     let l = c .before .before .before .loop in
-    (omega arith, c .one-more .ensures ∙ ap (more (direction (getD o (l .t) 0))) (l .inv .1) ∙ sym (multiplicities-next o (l .t) (omega arith)))
+    let next = sym (multiplicities-next o (l .t) (omega arith)) in
+    (omega arith, c .one-more .ensures ∙ ap (more (direction (getD o (l .t) 0))) (l .inv .1) ∙ next)
 
 returns : tie.Need-returns Inv-loop μ-loop
 returns c =
     let s = c .before .before .before in
     let o = now (s .args .order) in
     let l = c .before .loop in
-    let e : take (l .t) o ≡ o = ap (λ (k : ℕ). take k o) (le-antisymm (l .inv .0) (c .loop-test .left)) ∙ take-length o in
-    (l .inv .1 ∙ ap orderMultiplicities e, prefix-limits o (l .t) (l .c) 12 (l .inv .1) (l .inv .0) (omega (arith, s .pre .short)))
+    let end = le-antisymm (l .inv .0) (c .loop-test .left) in
+    let all = ap (λ (k : ℕ). take k o) end ∙ take-length o in
+    let few : 4 + l .t ≤ 12 = omega (arith, s .pre .short) in
+    let limits = prefix-limits o (l .t) 12 (counted (l .c)) (l .inv .1) (l .inv .0) few in
+    (l .inv .1 ∙ ap orderMultiplicities all, limits)
 
 pub counts-of-spec : {M : Type 1} → statement M
 counts-of-spec =

@@ -1,3 +1,4 @@
+-- After i turns the first i numbers of the slice are those of the simple net.
 use mathlib.Core.List.{List, []}
 use mathlib.Core.Path.{_∙_, _≡_, ap, refl, sym}
 use Prim.Native.Nat.{_-_, _≤_, ℕ}
@@ -37,9 +38,11 @@ loop-less c = omega arith
 
 loop-again : tie.Need-loop-again Inv-loop μ-loop
 loop-again c =
-    let l = c .before .before .loop in (
+    let l = c .before .before .loop in
+    let n = c .simple-number in (
       omega arith,
-      ap (λ (s : List ℕ). set s (l .i) (c .simple-number .result)) (l .inv .1) ∙ fill-store (orderNumber []) (l .i) _ (c .simple-number .result) (omega arith) (c .simple-number .ensures),
+      ap (λ (s : List ℕ). set s (l .i) (n .result)) (l .inv .1)
+          ∙ fill-store (orderNumber []) (l .i) _ (n .result) (omega arith) (n .ensures),
       simp length-set (l .inv .2),
     )
 
@@ -47,7 +50,11 @@ same-length : tie.Need-same-length Inv-loop μ-loop
 same-length c = c .before .loop .inv .2
 
 returns : tie.Need-returns Inv-loop μ-loop
-returns c = c .before .loop .inv .1 ∙ ap (λ (k : ℕ). filled (orderNumber []) k (now (c .before .before .before .args .net))) (le-antisymm (c .before .loop .inv .0) (c .loop-test .left))
+returns c =
+    let l = c .before .loop in
+    let net = now (c .before .before .before .args .net) in
+    let end = le-antisymm (l .inv .0) (c .loop-test .left) in
+    l .inv .1 ∙ ap (λ (k : ℕ). filled (orderNumber []) k net) end
 
 pub lay-simple-spec : {M : Type 1} → statement M
 lay-simple-spec =

@@ -1,3 +1,4 @@
+-- The table's rule is one computed test of its entries.
 use mathlib.Core.Bool.{true}
 use mathlib.Core.List.{List, [], _∷_}
 use mathlib.Core.Path.{_≡_, refl}
@@ -13,7 +14,6 @@ use Rattle.sums.specs.Search.{allTo}
 use Rattle.point.proofs.bernstein.binomial_of.Statement.{statement}
 use Rattle.point.proofs.bernstein.binomial_of.Tie as tie
 
--- The table's rule is one computed test of its entries.
 table : List (List ℕ)
 table =
     (1 ∷ 0 ∷ 0 ∷ 0 ∷ 0 ∷ 0 ∷ 0 ∷ 0 ∷ 0 ∷ 0 ∷ []) ∷
@@ -52,7 +52,9 @@ index-2-result c = search needs
 
 cast-result : tie.Need-cast-result
 unfolding table
-cast-result c = omega (arith, small (c .before .args .n) (c .before .args .k) (c .before .pre .0) (c .before .pre .1))
+cast-result c =
+    let s = c .before in
+    omega (arith, small (s .args .n) (s .args .k) (s .pre .0) (s .pre .1))
 
 returns : tie.Need-returns
 unfolding table

@@ -1,3 +1,4 @@
+-- After i turns the table holds the powers 0 to i.
 use mathlib.Core.Path.{_∙_, _≡_, refl}
 use Prim.Native.Nat.{_*_, _+_, _-_, _<_, _^_, _≤_, ℕ}
 use native.Mathlib.Nat.{pow-suc, pow-zero}
@@ -15,11 +16,17 @@ Inv-loop base m p₀ i₀ p i = (i ≤ m) × (length p ≡ 10) × ((j : ℕ) →
 abbrev μ-loop : tie.MeasureT-loop
 μ-loop base m p₀ i₀ p i = m - i
 
-step : (c : tie.In-loop Inv-loop μ-loop) → getD (c .before .loop .p) (c .before .loop .i) 0 * c .before .before .args .base ≡ c .before .before .args .base ^ (c .before .loop .i + 1)
-step c = rw (add-one (c .before .loop .i), pow-suc (c .before .before .args .base) (c .before .loop .i), c .before .loop .inv .2 (c .before .loop .i) (omega arith)) refl
+step : (c : tie.In-loop Inv-loop μ-loop) → (let at = c .before .loop in
+    let base = c .before .before .args .base in
+    getD (at .p) (at .i) 0 * base ≡ base ^ (at .i + 1))
+step c =
+    let at = c .before .loop in
+    let base = c .before .before .args .base in
+    rw (add-one (at .i), pow-suc base (at .i), at .inv .2 (at .i) (omega arith)) refl
 
 loop-holds : tie.Need-loop-holds Inv-loop μ-loop
-loop-holds c = (omega arith, refl, λ j l. let e : j ≡ 0 = omega arith in rw (e, pow-zero (c .args .base)) refl)
+loop-holds c =
+    (omega arith, refl, λ j l. let e : j ≡ 0 = omega arith in rw (e, pow-zero (c .args .base)) refl)
 
 mul-p : tie.Need-mul-p Inv-loop μ-loop
 mul-p c = omega arith
@@ -48,12 +55,13 @@ loop-less c = omega arith
 loop-again : tie.Need-loop-again Inv-loop μ-loop
 loop-again c =
     let at = c .before .loop in
-    let v = getD (at .p) (at .i) 0 * c .before .before .args .base in
-    let here : getD (set (at .p) (at .i + 1) v) (at .i + 1) 0 ≡ c .before .before .args .base ^ (at .i + 1) = getD-set-same (at .p) (at .i + 1) v 0 (omega arith) ∙ step c in (
-      omega arith,
-      length-set (at .p) (at .i + 1) v ∙ at .inv .1,
-      below-more _ (at .i + 1) (λ j l. getD-set-other (at .p) (at .i + 1) j v 0 (λ e. omega arith) ∙ at .inv .2 j l) here,
-    )
+    let base = c .before .before .args .base in
+    let v = getD (at .p) (at .i) 0 * base in
+    let here : getD (set (at .p) (at .i + 1) v) (at .i + 1) 0 ≡ base ^ (at .i + 1)
+    = getD-set-same (at .p) (at .i + 1) v 0 (omega arith) ∙ step c in
+    let others : (j : ℕ) → j < at .i + 1 → getD (set (at .p) (at .i + 1) v) j 0 ≡ base ^ j
+    = λ j l. getD-set-other (at .p) (at .i + 1) j v 0 (λ e. omega arith) ∙ at .inv .2 j l in
+    (omega arith, length-set (at .p) (at .i + 1) v ∙ at .inv .1, below-more _ (at .i + 1) others here)
 
 returns : tie.Need-returns Inv-loop μ-loop
 returns c = λ j l. c .before .loop .inv .2 j (omega arith)

@@ -1,3 +1,4 @@
+-- The factor and the product fit because the caller's bounds are on exactly these.
 use mathlib.Core.Path.{refl}
 use native.Mathlib.Omega.{arith}
 use borrow.Author.Needs.{needs}

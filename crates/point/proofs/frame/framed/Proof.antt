@@ -1,12 +1,14 @@
+-- Each field is the definition's, once the shape is that of the unit's net.
 use mathlib.Core.Path.{_∙_, _≡_, ap, refl}
 use Prim.Native.Nat.{_≤_}
 use native.Mathlib.Omega.{arith}
 use borrow.Author.Needs.{needs}
 use Rattle.spline.specs.Multiplicities.{Multiplicities}
-use Rattle.spline.specs.Place.{a1, a2}
+use Rattle.unit.proofs.Limits.{net-limits}
 use Rattle.unit.specs.Unit.{netOf}
+use Rattle.shape.proofs.Shapes.{limits-boxed}
+use Rattle.shape.specs.Inner.Boxes.{Boxed}
 use Rattle.shape.specs.Shape.{shapeOf}
-use Rattle.placing.proofs.Sizes.{Shaped, unit-shaped}
 use Rattle.point.proofs.frame.framed.Statement.{statement}
 use Rattle.point.proofs.frame.framed.Tie as tie
 
@@ -17,14 +19,14 @@ module _ (c : tie.After-shape-of) where
   shape-is : c .shape-of .result ≡ shapeOf v
   shape-is = c .shape-of .ensures .0 ∙ ap shapeOf (c .before .of-unit .ensures)
 
-  shaped : Shaped v
-  shaped = unit-shaped (c .before .before .args .unit) (c .before .before .pre)
+  boxed : Boxed (shapeOf v)
+  boxed = limits-boxed v (net-limits (c .before .before .args .unit) (c .before .before .pre) .limits)
 
   degree-most : c .shape-of .result .m ≤ 9
-  degree-most = rw shape-is (shaped .degree-most)
+  degree-most = rw shape-is (boxed .degree-most)
 
   widths-most : (c .shape-of .result .w1 ≤ 91) × (c .shape-of .result .w2 ≤ 91)
-  widths-most = rw shape-is (shaped .width-most a1, shaped .width-most a2)
+  widths-most = rw shape-is (boxed .most1, boxed .most2)
 
 of-unit-requires : tie.Need-of-unit-requires
 of-unit-requires c κs = search needs
@@ -60,18 +62,32 @@ cast-t16 : tie.Need-cast-t16
 cast-t16 c = search needs
 
 step-on-requires : tie.Need-step-on-requires
-step-on-requires c κs = widths-most (c .before .before .before .before .before .before .before .before .before)
+step-on-requires c κs =
+    widths-most (c .before .before .before .before .before .before .before .before .before)
 
 step-on-requires-2 : tie.Need-step-on-requires-2
-step-on-requires-2 c κs = widths-most (c .before .before .before .before .before .before .before .before .before .before)
+step-on-requires-2 c κs =
+    widths-most (c .before .before .before .before .before .before .before .before .before .before)
 
 step-on-requires-3 : tie.Need-step-on-requires-3
-step-on-requires-3 c κs = widths-most (c .before .before .before .before .before .before .before .before .before .before .before)
+step-on-requires-3 c κs =
+    widths-most (c .before .before .before .before .before .before .before .before .before .before .before)
 
 returns : tie.Need-returns
 returns c =
-    let s = c .before .before .before .before .before .before .before .before .before .before .before .before in
-    rw (c .before .before .step-on .ensures, c .before .step-on2 .ensures, c .step-on3 .ensures, c .before .before .before .before .before .before .before .before .before .before .before .factorial-of .ensures, shape-is s, c .before .before .before .before .before .before .before .before .before .before .extent-of .ensures, c .before .before .before .before .before .before .before .before .before .extent-of2 .ensures, c .before .before .before .before .before .before .before .before .extent-of3 .ensures) refl
+    let casts = c .before .before .before in
+    let e3 = casts .before .before .before .before .before in
+    let full = e3 .before .before .before in
+    rw (
+      c .before .before .step-on .ensures,
+      c .before .step-on2 .ensures,
+      c .step-on3 .ensures,
+      full .factorial-of .ensures,
+      shape-is (full .before),
+      e3 .before .before .extent-of .ensures,
+      e3 .before .extent-of2 .ensures,
+      e3 .extent-of3 .ensures,
+    ) refl
 
 pub framed-spec : {M : Type 1} → statement M
 framed-spec =

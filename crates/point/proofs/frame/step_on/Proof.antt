@@ -1,8 +1,9 @@
+-- The tests are the definition's own.
 use native.Mathlib.Nat.{mul-le-mul}
 use native.Mathlib.Omega.{arith}
 use borrow.Author.Tests.{eq-eqb, ne-eqb}
 use Rattle.point.proofs.frame.step_on.Statement.{statement}
-use Rattle.point.specs.Window.{stepOn}
+use Rattle.point.specs.Inner.Window.{stepOn}
 use Rattle.point.proofs.frame.step_on.Tie as tie
 
 returns : tie.Need-returns

@@ -1,3 +1,4 @@
+-- No gap stands at the first i places, so the first one found has the lowest index.
 use mathlib.Core.Bool.{false}
 use mathlib.Core.List.{List}
 use mathlib.Core.Path.{_≡_, refl}
@@ -14,24 +15,27 @@ use Rattle.point.proofs.Gaps.{first-of-hit, first-of-next, first-of-non
 use Rattle.point.proofs.window.gap_in_row.Statement.{statement}
 use Rattle.point.specs.Answer.{signedAt}
 use Rattle.point.specs.Blending.{isGap}
-use Rattle.point.specs.Window.{RowMeasured, entryGap, firstOf, rowGap}
+use Rattle.point.specs.Inner.Window.{RowMeasured, entryGap, firstOf, rowGap}
 use Rattle.point.proofs.window.gap_in_row.Tie as tie
 
 abbrev gaps : List ℤ → ℕ → ℕ → Found
 gaps corrections from i = entryGap (signedAt corrections) (from + i)
 
 abbrev Inv-loop : tie.InvT-loop
-Inv-loop corrections from count i₀ i = (i ≤ count) × (firstOf i (gaps corrections from) ≡ nowhere) × RowMeasured (signedAt corrections) i from
+Inv-loop corrections from count i₀ i =
+    (i ≤ count) × (firstOf i (gaps corrections from) ≡ nowhere) × RowMeasured (signedAt corrections) i from
 
 abbrev μ-loop : tie.MeasureT-loop
 μ-loop corrections from count i₀ i = count - i
 
 -- what the call says of the entry itself
-entry : (c : tie.After-is-gap Inv-loop μ-loop) → (let s = c .before .before .before .before in let z = signedAt (s .args .corrections .now) (s .args .from + c .before .before .before .loop .i) in
+entry : (c : tie.After-is-gap Inv-loop μ-loop) → (let a = c .before .before .before .before .args in
+    let z = signedAt (a .corrections .now) (a .from + c .before .before .before .loop .i) in
     (c .is-gap .result ≡ isGap z) × (c .is-gap .result ≡ false → natAbs z ≤ 32767))
 entry c =
-    let s = c .before .before .before .before in
-    let f : SFits w16 (signedAt (s .args .corrections .now) (s .args .from + c .before .before .before .loop .i)) = record { sfits = c .before .is-gap-arg .given } in
+    let a = c .before .before .before .before .args in
+    let f : SFits w16 (signedAt (a .corrections .now) (a .from + c .before .before .before .loop .i))
+    = record { sfits = c .before .is-gap-arg .given } in
     simp toZ-ofZ at (c .is-gap .ensures)
 
 loop-holds : tie.Need-loop-holds Inv-loop μ-loop
@@ -54,10 +58,12 @@ add-t11 c = omega arith
 
 returns : tie.Need-returns Inv-loop μ-loop
 unfolding rowGap
-returns c = let s = c .before .before .before .before .before in
+returns c =
+    let a = c .before .before .before .before .before .args in
     let l = c .before .before .before .before .loop in
-    let hit : gaps (s .args .corrections .now) (s .args .from) (l .i) ≡ at (s .args .from + l .i) = rw (← (entry (c .before) .0), c .if1 .taken) refl in
-    searched-hit _ _ (first-of-hit (gaps (s .args .corrections .now) (s .args .from)) (s .args .count) (l .i) (s .args .from + l .i) (l .inv .1) hit (omega arith))
+    let here = gaps (a .corrections .now) (a .from) in
+    let hit : here (l .i) ≡ at (a .from + l .i) = rw (← (entry (c .before) .0), c .if1 .taken) refl in
+    searched-hit _ _ (first-of-hit here (a .count) (l .i) (a .from + l .i) (l .inv .1) hit (omega arith))
 
 add-i : tie.Need-add-i Inv-loop μ-loop
 add-i c = omega arith
@@ -67,14 +73,19 @@ loop-less c = omega arith
 
 loop-again : tie.Need-loop-again Inv-loop μ-loop
 loop-again c =
-    let s = c .before .before .before .before .before in
+    let a = c .before .before .before .before .before .args in
     let l = c .before .before .before .before .loop in
-    let none : gaps (s .args .corrections .now) (s .args .from) (l .i) ≡ nowhere = rw (← (entry (c .before) .0), c .if1 .left) refl in
-    (omega arith, first-of-next (gaps (s .args .corrections .now) (s .args .from)) (l .i) (l .inv .1) none, below-more _ (l .i) (l .inv .2) (entry (c .before) .1 (c .if1 .left)))
+    let here = gaps (a .corrections .now) (a .from) in
+    let none : here (l .i) ≡ nowhere = rw (← (entry (c .before) .0), c .if1 .left) refl in (
+      omega arith,
+      first-of-next here (l .i) (l .inv .1) none,
+      below-more _ (l .i) (l .inv .2) (entry (c .before) .1 (c .if1 .left)),
+    )
 
 returns-2 : tie.Need-returns-2 Inv-loop μ-loop
 unfolding rowGap
-returns-2 c = let s = c .before .before in
+returns-2 c =
+    let s = c .before .before in
     let l = c .before .loop in
     let e : l .i ≡ s .args .count = omega arith in
     searched-none _ _ (rw e at (l .inv .1)) (rw e at (l .inv .2))

@@ -1,3 +1,4 @@
+-- The flag and the test of the multiplicities are the two of the definition.
 use borrow.Author.Needs.{needs}
 use Rattle.unit.proofs.Unit.holds_net.Statement.{statement}
 use Rattle.unit.specs.Unit.{hasNet}

@@ -1,8 +1,8 @@
 //! One point call, and how a sound one is made.
 
-use super::super::{long_enough, pick, sizes};
+use super::super::{absent, long_enough, pick, sizes};
 use crate::Outcome;
-use crate::answers::{Answered, number};
+use crate::answers::{Answered, Handed, number};
 use crate::calls::Point;
 use crate::report::Tally;
 use crate::shelf::{LentNet, Shelf};
@@ -14,7 +14,7 @@ use evaluator::random::Random;
 use evaluator::unit::{Sizes, Unit};
 
 pub struct Case {
-    pub unit: Unit,
+    pub handed: Handed,
     pub net: LentNet,
     pub net_length: usize,
     pub corrections: Vec<i16>,
@@ -30,15 +30,15 @@ pub struct Case {
 impl Case {
     /// What the evaluator is handed, the net apart.
     pub fn call(&self) -> Call<'_> {
-        let Case { unit, net_length, corrections, uncertainties, coordinates, divisor, .. } = self;
-        let (unit, net_length, coordinates, divisor) = (*unit, *net_length, *coordinates, *divisor);
+        let Case { handed, net_length, corrections, uncertainties, coordinates, divisor, .. } = self;
+        let (unit, net_length, coordinates, divisor) = (handed.unit, *net_length, *coordinates, *divisor);
         Call { unit, net_length, corrections, uncertainties, coordinates, divisor }
     }
 
     /// Makes the call with this net slice.
     pub fn hold_to(&self, expected: &Answered, net: &[u32]) -> Outcome {
-        let Call { unit, corrections, uncertainties, coordinates, divisor, .. } = self.call();
-        let told = self.net.to_string();
+        let Call { corrections, uncertainties, coordinates, divisor, .. } = self.call();
+        let (unit, told) = (self.handed, self.net.to_string());
         Point { unit, net, told, corrections, uncertainties, coordinates, divisor }.check(expected)
     }
 
@@ -73,9 +73,9 @@ impl Case {
         uncertainties.resize(long_enough(sizes.entries(), random), u16::MAX);
         let coordinate = |b: usize| (cube[b] as u32).saturating_mul(divisor).saturating_add(remainder[b]);
         let coordinates = [0, 1, 2].map(coordinate);
-        let unit = Unit::EMPTY.with_net(v).with_block(sizes);
+        let handed = Handed { unit: Unit::EMPTY.with_net(v).with_block(sizes), absent: absent(random) };
         let (net, net_length) = (LentNet::defined(v), long_enough(v.places(), random));
-        Case { unit, net, net_length, corrections, uncertainties, cube, remainder, coordinates, divisor }
+        Case { handed, net, net_length, corrections, uncertainties, cube, remainder, coordinates, divisor }
     }
 }
 

@@ -39,12 +39,12 @@ fn refused_divisor(check: u8, checks: &[u8], v: Multiplicities, random: &mut Ran
 }
 
 fn fault(check: u8, case: &mut Case, shelf: &Shelf, random: &mut Random) {
-    let entries = case.unit.n.into_iter().map(usize::from).product();
+    let entries = case.handed.unit.n.into_iter().map(usize::from).product();
     match check {
-        21 if random.below(2) == 0 => case.unit.has_net = false,
-        21 => break_multiplicities(&mut case.unit.v, random),
-        22 if random.below(2) == 0 => case.unit.has_block = false,
-        22 => break_sizes(&mut case.unit.n, random),
+        21 if random.below(2) == 0 => case.handed.unit.has_net = false,
+        21 => break_multiplicities(&mut case.handed.unit.v, random),
+        22 if random.below(2) == 0 => case.handed.unit.has_block = false,
+        22 => break_sizes(&mut case.handed.unit.n, random),
         4 => case.net_length = too_short(case.net.of.places(), random),
         9 => {
             let mut lengths = [case.corrections.len(), case.uncertainties.len()];
@@ -68,7 +68,7 @@ fn fault(check: u8, case: &mut Case, shelf: &Shelf, random: &mut Random) {
 fn needed_entry(case: &Case, random: &mut Random) -> usize {
     let extents = case.net.of.extents();
     let j = [0, 1, 2].map(|b| case.cube[b] - random.between(0, extents[b] - 1));
-    let [n1, n2, _] = case.unit.n.map(usize::from);
+    let [n1, n2, _] = case.handed.unit.n.map(usize::from);
     j[0] + n1 * (j[1] + n2 * j[2])
 }
 
@@ -77,7 +77,7 @@ fn outside(case: &mut Case, random: &mut Random) {
     let axis = random.between(0, 2);
     let divisor = u64::from(case.divisor.max(1));
     let below = (case.net.of.extents()[axis] as u64 - 1) * divisor - 1;
-    let above = u64::from(case.unit.n[axis]) * divisor;
+    let above = u64::from(case.handed.unit.n[axis]) * divisor;
     let coordinate = pick(random, &[0, below, above, above + divisor - 1, u64::from(u32::MAX)]);
     case.coordinates[axis] = coordinate.min(u32::MAX.into()) as u32;
 }
@@ -106,7 +106,7 @@ pub fn free(random: &mut Random) -> Case {
     let divisor = pick(random, &[0, 1, 2, 3, 4096, 4097, any]);
     let mut case = Case::over(divisor, v, random);
     if random.below(2) == 0 {
-        case.unit = unit(random);
+        case.handed = unit(random);
     }
     for coordinate in &mut case.coordinates {
         let any = random.below(1 << 32) as u32;

@@ -1,0 +1,26 @@
+-- Demand 1 at the C interface: no refusal has the number 0, so a flat answer's number tells.
+use Rattle.net.specs.Build.{buildAnswer}
+use Rattle.inspection.specs.Inspect.{inspectAnswer}
+use Rattle.field.specs.Load.{loadAnswer}
+use Rattle.point.specs.Answer.{pointAnswer}
+use Rattle.flat.proofs.Meaning.{block-number, net-number, point-number}
+use Rattle.flat.specs.Flat.{unitOf}
+use Rattle.claims.proofs.Refusals.{not-zero}
+use Rattle.claims.specs.Demands.{FlatNumbers}
+use Rattle.claims.specs.Refusals.{by-build, by-inspection, by-load, by-point}
+
+pub flat-numbers : FlatNumbers
+flat-numbers u = (
+  λ order netLength workLength.
+      net-number u (buildAnswer (unitOf u) order netLength workLength)
+      (λ r h. not-zero r (by-build (unitOf u) order netLength workLength h)),
+  λ v net definedLength workLength.
+      net-number u (inspectAnswer (unitOf u) v net definedLength workLength)
+      (λ r h. not-zero r (by-inspection (unitOf u) v net definedLength workLength h)),
+  λ file corrections uncertainties.
+      block-number u (loadAnswer (unitOf u) file corrections uncertainties)
+      (λ r h. not-zero r (by-load (unitOf u) file corrections uncertainties h)),
+  λ net corrections uncertainties x y z D.
+      point-number (pointAnswer (unitOf u) net corrections uncertainties x y z D)
+      (λ r h. not-zero r (by-point (unitOf u) net corrections uncertainties x y z D h)),
+)

@@ -1,0 +1,6 @@
+pub mod LoweredPlaces
+pub mod RunningCells
+pub mod NearPlaces
+pub mod DifferenceRows
+pub mod RowEnds
+pub mod PassFits

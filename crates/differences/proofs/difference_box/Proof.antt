@@ -1,0 +1,148 @@
+-- After z turns the layers before z are written, and the cell of z has run along.
+use mathlib.Core.Path.{_∙_, _≡_, ap, refl, sym}
+use Prim.Native.Nat.{_*_, _+_, _-_, _≤_, ℕ}
+use native.Mathlib.Nat.{le-antisymm, mul-le-mul-left}
+use native.Mathlib.Omega.{arith}
+use borrow.Author.Needs.{needs}
+use lib.IntN.{ℤ}
+use lib.ListN.{length}
+use denote.Ref.{now}
+use Rattle.sums.proofs.Fill.{fill-none, length-filled, rebase-in, rebase-out}
+use Rattle.sums.specs.Fill.{filled}
+use Rattle.spline.specs.Box.{places}
+use Rattle.spline.specs.Build.{direction}
+use Rattle.spline.specs.Place.{Axis, Direction, a1, a2, a3}
+use Rattle.shape.specs.Shape.{widths}
+use Rattle.shape.proofs.Rows.{layer-within}
+use Rattle.differences.proofs.RunningCells.{cellAt, first-cell}
+use Rattle.differences.proofs.DifferenceRows.{cell-small, step-small}
+use Rattle.differences.proofs.difference_box.Statement.{statement}
+use Rattle.differences.specs.Inner.Coordinates.{cellOf}
+use Rattle.differences.specs.Pass.{indexDifference}
+use Rattle.shape.specs.Direction.{component}
+use Rattle.shape.specs.declared.Vector.{Vector}
+use Rattle.differences.proofs.difference_box.Tie as tie
+
+abbrev Inv-loop : tie.InvT-loop
+Inv-loop net work₀ old new d g w3 cz₀ z₀ work cz z =
+    (z ≤ w3) × (cz ≡ cellOf g (z + g * component (direction d) a3)) × (length work ≡ length work₀)
+    × (work ≡ filled (indexDifference (direction d) g (widths old) net (widths new))
+    (new .w1 * (new .w2 * z)) work₀)
+
+abbrev μ-loop : tie.MeasureT-loop
+μ-loop net work₀ old new d g w3 cz₀ z₀ work cz z = w3 - z
+
+module _ (s : tie.Start Inv-loop μ-loop) where
+  abbrev d : Direction
+  d = direction (s .args .d)
+
+  abbrev g : ℕ
+  g = s .args .old .m
+
+  abbrev W : Axis → ℕ
+  W = widths (s .args .new)
+
+  abbrev f : ℕ → ℤ
+  f = indexDifference d g (widths (s .args .old)) (now (s .args .net)) W
+
+  -- the places before the layer z
+  abbrev upto : ℕ → ℕ
+  upto z = W a1 * (W a2 * z)
+
+-- in a turn
+module _ (c : tie.In-loop Inv-loop μ-loop) where
+  abbrev start : tie.Start Inv-loop μ-loop
+  start = c .before .before .before .before .before
+
+vector-of-requires : tie.Need-vector-of-requires Inv-loop μ-loop
+vector-of-requires c κs = search needs
+
+mul-t11 : tie.Need-mul-t11 Inv-loop μ-loop
+mul-t11 c =
+    let q = c .before .before .before in
+    omega (arith, ap (λ (v : Vector). g q * v .z) (c .before .vector-of .ensures), step-small (d q) a3 (g q))
+
+loop-holds : tie.Need-loop-holds Inv-loop μ-loop
+loop-holds c =
+    let q = c .before .before .before in
+    let e : 0 ≡ upto q 0 = omega arith in
+    let first = first-cell (g q) (g q * component (d q) a3) (step-small (d q) a3 (g q)) in (
+      omega arith,
+      ap (λ (v : Vector). cellAt 0 (g q * v .z)) (c .before .vector-of .ensures) ∙ sym first,
+      refl,
+      sym (fill-none (f q) (now (q .args .work))) ∙ ap (λ (k : ℕ). filled (f q) k (now (q .args .work))) e,
+    )
+
+difference-layer-requires : tie.Need-difference-layer-requires Inv-loop μ-loop
+difference-layer-requires c κs =
+    let b = c .before in
+    let q = start b in
+    let l = b .before .loop in (
+      (q .pre .0, q .pre .1, omega (arith, l .inv .2, q .pre .2)),
+      ((omega arith, l .inv .1), rebase-in (f q) (now (q .args .work)) (l .work) (upto q (l .z)) (l .inv .3)),
+    )
+
+next-cell-requires : tie.Need-next-cell-requires Inv-loop μ-loop
+next-cell-requires c κs =
+    let q = c .before .before .before .before .before .before .before .before in
+    let l = c .before .before .before .before .loop in
+    let degree = q .pre .0 .degree in
+    let low : l .z ≤ 91 = omega (arith, l .inv .0, q .pre .1) in
+    (degree, cell-small (d q) a3 (g q) (l .z) (l .cz) degree low (l .inv .1) .base)
+
+add-z : tie.Need-add-z Inv-loop μ-loop
+add-z c =
+    let l = c .before .before .before .before .before .loop in
+    let q = c .before .before .before .before .before .before .before .before .before in
+    omega (arith, l .inv .0, q .pre .1)
+
+loop-less : tie.Need-loop-less Inv-loop μ-loop
+loop-less c = omega arith
+
+loop-again : tie.Need-loop-again Inv-loop μ-loop
+loop-again c =
+    let b = c .before .before .before .before in
+    let q = start b in
+    let l = b .before .loop in
+    let r = c .before .before .difference-layer in
+    let work = now (q .args .work) in
+    let n : l .z + g q * component (d q) a3 + 1 ≡ l .z + 1 + g q * component (d q) a3 = omega arith in
+    let layer : W q a2 * l .z ≤ W q a2 * (l .z + 1) = mul-le-mul-left (W q a2) (omega arith) in
+    let up : upto q (l .z) ≤ upto q (l .z + 1) = mul-le-mul-left (W q a1) layer in
+    let in-box = layer-within (W q a1) (W q a2) (W q a3) (l .z) (b .loop-test .taken) in
+    let i = upto q (l .z) in
+    let j = upto q (l .z + 1) in
+    let e = rebase-out (f q) work (l .work) i (l .inv .3) (r .last .1 .0) j up (r .ensures) in (
+      omega arith,
+      c .next-cell .ensures (l .z + g q * component (d q) a3) (l .inv .1) ∙ ap (cellOf (g q)) n,
+      ap length e ∙ length-filled (f q) j work (omega (arith, in-box, q .pre .2)),
+      e,
+    )
+
+same-length : tie.Need-same-length Inv-loop μ-loop
+same-length c = c .before .loop .inv .2
+
+returns : tie.Need-returns Inv-loop μ-loop
+returns c =
+    let q = c .before .before .before .before .before in
+    let l = c .before .loop in
+    let h : l .z ≡ W q a3 = le-antisymm (l .inv .0) (c .loop-test .left) in
+    let k : upto q (l .z) ≡ places (W q) = rw h (omega arith) in
+    l .inv .3 ∙ ap (λ (i : ℕ). filled (f q) i (now (q .args .work))) k
+
+pub difference-box-spec : {M : Type 1} → statement M
+difference-box-spec =
+    tie.close
+    (tie.spec
+    Inv-loop
+    μ-loop
+    vector-of-requires
+    mul-t11
+    loop-holds
+    difference-layer-requires
+    next-cell-requires
+    add-z
+    loop-less
+    loop-again
+    same-length
+    returns)

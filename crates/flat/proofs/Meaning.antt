@@ -1,0 +1,55 @@
+-- What the records and numbers of flat answers mean.
+use mathlib.Core.Logic.{_↔_}
+use mathlib.Core.Path.{_≡_, refl}
+use Prim.Native.Nat.{ℕ}
+use native.Mathlib.Omega.{arith}
+use Rattle.spline.specs.Multiplicities.{Multiplicities}
+use Rattle.unit.specs.Unit.{emptyUnit, withBlock, withNet}
+use Rattle.unit.specs.declared.Refusal.{Refusal}
+use Rattle.unit.specs.declared.Unit.{Unit}
+use Rattle.unit.specs.declared.UnitAnswer.{UnitAnswer}
+use Rattle.point.specs.declared.Fraction.{Fraction}
+use Rattle.point.specs.declared.PointAnswer.{PointAnswer}
+use Rattle.flat.specs.Flat.{blockHalf, emptyFlat, flatBlock, flatNet, flatPoint, netHalf, unitOf}
+use Rattle.flat.specs.declared.FlatUnit.{FlatUnit}
+
+-- ---- records
+
+-- the empty record stands for the empty unit
+pub empty-stands : unitOf emptyFlat ≡ emptyUnit
+empty-stands = refl
+
+-- the record of a build or an inspection that was not refused stands for the unit that has the net
+pub net-stands : (before : FlatUnit) (v : Multiplicities)
+    → unitOf (netHalf before (withNet (unitOf before) v)) ≡ withNet (unitOf before) v
+net-stands before v = refl
+
+-- the record of a load that was not refused stands for the unit that has the block
+pub block-stands : (before : FlatUnit) (n1 n2 n3 : ℕ)
+    → unitOf (blockHalf before (withBlock (unitOf before) n1 n2 n3)) ≡ withBlock (unitOf before) n1 n2 n3
+block-stands before n1 n2 n3 = refl
+
+-- ---- numbers
+
+-- the number of a build or an inspection is 0 exactly where the unit was changed, if no refusal has number 0
+pub net-number : (before : FlatUnit) (answer : UnitAnswer)
+    → ((r : Refusal) → answer ≡ UnitAnswer.Refused r → r .number ≡ 0 → ⊥)
+    → (flatNet before answer .number ≡ 0) ↔ ((after : Unit) × (answer ≡ UnitAnswer.Changed after))
+net-number before (UnitAnswer.Changed after) nonzero = (λ _. (after, refl), λ _. refl)
+net-number before (UnitAnswer.Refused r) nonzero =
+    (λ h. absurd (nonzero r refl h), λ (after, h). let z : _≡_ {A = ℕ} 0 1 = cc in absurd (omega arith))
+
+-- so is the number of a load
+pub block-number : (before : FlatUnit) (answer : UnitAnswer)
+    → ((r : Refusal) → answer ≡ UnitAnswer.Refused r → r .number ≡ 0 → ⊥)
+    → (flatBlock before answer .number ≡ 0) ↔ ((after : Unit) × (answer ≡ UnitAnswer.Changed after))
+block-number before (UnitAnswer.Changed after) nonzero = net-number before (UnitAnswer.Changed after) nonzero
+block-number before (UnitAnswer.Refused r) nonzero = net-number before (UnitAnswer.Refused r) nonzero
+
+-- the number of a point call is 0 exactly where it has a value, if no refusal has number 0
+pub point-number : (answer : PointAnswer)
+    → ((r : Refusal) → answer ≡ PointAnswer.Refused r → r .number ≡ 0 → ⊥)
+    → (flatPoint answer .number ≡ 0) ↔ ((value : Fraction) × (answer ≡ PointAnswer.Value value))
+point-number (PointAnswer.Value value) nonzero = (λ _. (value, refl), λ _. refl)
+point-number (PointAnswer.Refused r) nonzero =
+    (λ h. absurd (nonzero r refl h), λ (value, h). let z : _≡_ {A = ℕ} 0 1 = cc in absurd (omega arith))

@@ -1,0 +1,18 @@
+-- Typed bytes as a program reads them, one by one, until no more can matter.
+use mathlib.Core.Bool.{Bool, cond}
+use mathlib.Core.List.{List, [], _++_, _∷_}
+use Prim.Native.Nat.{ℕ}
+use lib.Dec.{ltb}
+use lib.ListN.{length, take}
+use Rattle.listing.specs.declared.Typed.{Typed}
+
+-- the bytes that were read
+abbrev pub held : Typed → List ℕ
+held t = take (t .count) (t .bytes)
+
+-- whether a byte more could change what is printed: ten decide
+unfoldable pub wantsMore : List ℕ → Bool
+wantsMore s = ltb (length s) 10
+
+unfoldable pub withByte : List ℕ → ℕ → List ℕ
+withByte s b = cond (wantsMore s) (s ++ (b ∷ [])) s

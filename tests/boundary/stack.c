@@ -1,0 +1,86 @@
+/* Measures the stack of each call: makes it on a painted stack, and looks how far down the paint is gone. */
+#define _POSIX_C_SOURCE 200809L
+#include "expect.h"
+#include "torskavel.h"
+
+#include <pthread.h>
+#include <stdlib.h>
+
+enum { STACK = 1 << 20, OWN = 160, PLACES = TORSKAVEL_MAX_PLACES, ENTRIES = TORSKAVEL_MAX_ENTRIES };
+
+static uint32_t net[PLACES], defined[PLACES];
+static int32_t work[PLACES];
+static int16_t corrections[ENTRIES];
+static uint16_t uncertainties[ENTRIES];
+static uint8_t file[TORSKAVEL_MAX_FILE] = {16, 0, 16, 0, 16, 0};
+
+static unsigned char stack[STACK] __attribute__((aligned(4096)));
+static struct torskavel_unit unit;
+static struct torskavel_unit_answer changed;
+static struct torskavel_point_answer answered;
+
+/* In the place of the C library's, so that its stack is not counted. */
+void *memset(void *to, int byte, size_t count) {
+    void *next = to;
+    __asm__ volatile("rep stosb" : "+D"(next), "+c"(count) : "a"(byte) : "memory");
+    return to;
+}
+
+static void empty_unit(void) {
+    unit = torskavel_empty_unit();
+}
+
+/* The calls below go their longest way: an order in which every direction is taken up, then the defined net again. */
+static void build(void) {
+    static const uint8_t order[] = {4, 1, 3, 2, 4, 1, 3, 2};
+    changed = torskavel_build(unit, order, sizeof order, net, PLACES, work, PLACES);
+}
+
+static void inspect(void) {
+    changed = torskavel_inspect(unit, 3, 3, 3, 3, net, PLACES, defined, PLACES, work, PLACES);
+}
+
+static void load(void) {
+    changed = torskavel_load(unit, file, sizeof file, corrections, ENTRIES, uncertainties, ENTRIES);
+}
+
+static void answer(void) {
+    answered = torskavel_answer(unit, net, PLACES, corrections, ENTRIES, uncertainties, ENTRIES, 50, 51, 52, 9);
+}
+
+/* How far below this function's frame a call goes, its arguments included; OWN or less counts as OWN. */
+static __attribute__((noinline)) size_t depth(void (*call)(void), unsigned char paint) {
+    unsigned char *const here = (unsigned char *)__builtin_frame_address(0);
+    for (volatile unsigned char *p = stack; p < here - OWN; p++) *p = paint;
+    call();
+    const volatile unsigned char *p = stack;
+    while (p < here - OWN && *p == paint) p++;
+    return (size_t)(here - p);
+}
+
+static void measure(const char *name, void (*call)(void), size_t most) {
+    const size_t first = depth(call, 0xa5), second = depth(call, 0x5a);
+    const size_t deepest = first > second ? first : second;
+    printf("%s %zu\n", name, deepest);
+    EXPECT(deepest <= most);
+    EXPECT(changed.number == 0 && answered.number == 0);
+    if (call == build || call == inspect || call == load) unit = changed.unit;
+}
+
+static void *run(void *unused) {
+    measure("empty_unit", empty_unit, TORSKAVEL_MAX_STACK_LOAD);
+    measure("load", load, TORSKAVEL_MAX_STACK_LOAD);
+    measure("build", build, TORSKAVEL_MAX_STACK);
+    measure("inspect", inspect, TORSKAVEL_MAX_STACK);
+    measure("answer", answer, TORSKAVEL_MAX_STACK);
+    return unused;
+}
+
+int main(void) {
+    pthread_attr_t attributes;
+    pthread_t thread;
+    EXPECT(pthread_attr_init(&attributes) == 0);
+    EXPECT(pthread_attr_setstack(&attributes, stack, sizeof stack) == 0);
+    EXPECT(pthread_create(&thread, &attributes, run, NULL) == 0 && pthread_join(thread, NULL) == 0);
+    return failures == 0 ? EXIT_SUCCESS : EXIT_FAILURE;
+}

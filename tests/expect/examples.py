@@ -1,0 +1,100 @@
+#!/usr/bin/env python3
+"""Makes what examples/c and examples/rust must print: their calls one after the other, answered by the evaluator.
+
+Run in the repository, after `cargo build --release --offline` in evaluator/:
+
+    python3 tests/expect/examples.py            writes examples/expected
+    python3 tests/expect/examples.py --check    says whether it is current
+
+The evaluator has no unit without a net and no order by bytes, so 21 and 2 are told here by document 01's conditions.
+"""
+import struct
+import sys
+from pathlib import Path
+
+sys.path.append(str(Path(__file__).resolve().parents[1]))
+from evaluator import ROOT, ask, net, widths
+
+STORED = ROOT / "examples/expected"
+FIELD = ROOT / "examples/machine.field"
+MIDDLE = (6, 6, 6)  # the place whose number a build shows
+
+
+def refused(number, place=0):
+    return f"refused {number}, place {place}"
+
+
+class Unit:
+    """A unit with its lent net and block, neither of which it has at first."""
+
+    def __init__(self):
+        self.multiplicities = self.sizes = None
+        self.damage = {}  # numbers that stand in the lent net in place of the defined ones
+        self.lines = []
+
+    def build(self, *order):
+        bad = [position for position, byte in enumerate(order) if byte not in (1, 2, 3, 4)]
+        if bad:
+            answer = refused(2, bad[0])
+        else:
+            v = self.multiplicities = tuple(1 + order.count(direction) for direction in (1, 2, 3, 4))
+            (x, y, z), (w1, w2, _) = MIDDLE, widths(v)
+            number = net(v)[x + w1 * (y + w2 * z)]
+            answer = "multiplicities {} {} {} {}, number {} at {}".format(*v, number, MIDDLE)
+        self.tell("build " + " ".join(map(str, order)), answer)
+
+    def load(self):
+        file = FIELD.read_bytes()
+        self.sizes = struct.unpack_from("<3H", file)
+        self.tell(f"load {len(file)} bytes", "block {} {} {}".format(*self.sizes))
+
+    def inspect(self):
+        v = self.multiplicities
+        differs = [place for place, number in sorted(self.damage.items()) if net(v)[place] != number]
+        answer = refused(14, differs[0]) if differs else "passed"
+        self.tell("inspect {} {} {} {}".format(*v), answer)
+
+    def point(self, *place, divisor=2):
+        self.tell(f"point {place}/{divisor}", self.answer(place, divisor))
+
+    def answer(self, place, divisor):
+        if self.multiplicities is None:
+            return refused(21)
+        call = [*self.multiplicities, *self.sizes, *place, divisor, "--file", FIELD]
+        changes = [f"{place}={number}" for place, number in self.damage.items()]
+        word, *numbers = ask("lent-point", *call, *changes).split()
+        if word == "refused":
+            return refused(*numbers)
+        if not self.damage and ask("point", *call).split() != [word, *numbers]:
+            sys.exit(f"point {place}: the net and the recurrence do not agree")
+        shift, uncertainty, over = numbers
+        return f"shift {shift}/{over}, uncertainty {uncertainty}/{over}"
+
+    def tell(self, call, answer):
+        self.lines.append(f"{call}: {answer}\n")
+
+
+def expected():
+    unit = Unit()
+    unit.point(5, 5, 5)
+    unit.build(1, 5)
+    unit.build(1, 3, 2)
+    unit.load()
+    unit.point(5, 5, 5)
+    unit.point(7, 5, 5)
+    unit.point(3, 5, 5)
+    unit.inspect()
+    unit.damage[0] = 1
+    unit.inspect()
+    unit.point(4, 4, 4)
+    return "".join(unit.lines)
+
+
+def main():
+    if sys.argv[1:] != ["--check"]:
+        STORED.write_text(expected())
+    elif STORED.read_text() != expected():
+        sys.exit("not current: examples/expected")
+
+
+main()
