@@ -4,6 +4,7 @@
  *
  * A call answers or refuses by number, whatever numbers, bytes, counts and unit record it is handed; a refused call leaves
  * the record and every slice as they were, but for the two work slices of an inspection.
+ * docs/SPECIFICATION.md says what each call must answer.
  *
  * What the archive is:
  *
@@ -12,10 +13,11 @@
  *     runs on the same stack must leave them alone.
  *   - At most TORSKAVEL_MAX_CODE bytes of code and constants, no data that is written, no heap. Nothing is kept between
  *     calls.
- *   - It needs one function from outside, memset, for builds and inspections.
+ *   - It needs two functions from outside, memset and memcpy.
  *   - A call takes at most TORSKAVEL_MAX_STACK bytes of stack, its arguments and return address and the red zone
- *     included, what memset takes not included; torskavel_empty_unit and torskavel_load take at most
- *     TORSKAVEL_MAX_STACK_LOAD.
+ *     included, what memset and memcpy take not included. Only a point takes as much, for its blended numbers;
+ *     torskavel_build and torskavel_inspect take at most TORSKAVEL_MAX_STACK_BUILD, torskavel_empty_unit and
+ *     torskavel_load at most TORSKAVEL_MAX_STACK_LOAD.
  *
  * What the caller owes, since no call can test it. A slice is two arguments: a pointer to its first element and the count
  * of its elements (not bytes).
@@ -46,7 +48,8 @@ extern "C" {
 #define TORSKAVEL_VERSION_PATCH 0
 
 #define TORSKAVEL_MAX_CODE 16384
-#define TORSKAVEL_MAX_STACK 2048
+#define TORSKAVEL_MAX_STACK 12288
+#define TORSKAVEL_MAX_STACK_BUILD 2048
 #define TORSKAVEL_MAX_STACK_LOAD 256
 
 /* The limits: an order's bytes; the sum of the four multiplicities, each at least 1; a net's degree and places; a block's

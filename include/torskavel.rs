@@ -13,8 +13,10 @@ pub const VERSION_PATCH: u32 = 0;
 
 /// The most bytes of code and constants of the archive.
 pub const MAX_CODE: usize = 16384;
-/// The most bytes of stack that a call takes, but for what memset takes.
-pub const MAX_STACK: usize = 2048;
+/// The most bytes of stack that a call takes, but for what memset and memcpy take.
+pub const MAX_STACK: usize = 12288;
+/// The most bytes of stack that `build` and `inspect` take.
+pub const MAX_STACK_BUILD: usize = 2048;
 /// The most bytes of stack that `empty_unit` and `load` take.
 pub const MAX_STACK_LOAD: usize = 256;
 

@@ -1,7 +1,7 @@
 //! Builds of nets.
 
 use crate::table::Row;
-use crate::timing::shortest;
+use crate::timing::{keep, shortest};
 use crate::{hand, torskavel};
 use std::hint::black_box;
 
@@ -9,11 +9,6 @@ pub const ORDERS: [&str; 5] = ["132", "1324", "11111111", "12341234", "44444444"
 
 /// Those of the order 44444444, the most that a net has.
 const MOST_PLACES: usize = 91 * 91 * 91;
-
-/// Lets no answer be left out.
-fn keep<T>(answer: T) {
-    black_box(answer);
-}
 
 pub fn measure(digits: &str) -> Row {
     let order: Vec<u8> = digits.bytes().map(|digit| digit - b'0').collect();
@@ -29,10 +24,9 @@ pub fn measure(digits: &str) -> Row {
     assert!(net == hand_net && net == tuned_net, "the nets of {digits} differ");
 
     let times = shortest(&mut [
-        &mut || keep(torskavel::build(unit, black_box(&order), &mut net, &mut work)),
-        &mut || keep(hand::build(unit, black_box(&order), &mut hand_net, &mut hand_work)),
-        &mut || keep(hand::build_tuned(unit, black_box(&order), &mut tuned_net, &mut tuned_work)),
+        Box::new(|| keep(torskavel::build(unit, black_box(&order), &mut net, &mut work))),
+        Box::new(|| keep(hand::build(unit, black_box(&order), &mut hand_net, &mut hand_work))),
+        Box::new(|| keep(hand::build_tuned(unit, black_box(&order), &mut tuned_net, &mut tuned_work))),
     ]);
-    let call = format!("build {digits}");
-    Row { call, library: times[0], hand: times[1], tuned: times[2], recursion: None, recursion_with_tables: None }
+    Row::of(format!("build {digits}"), &times)
 }

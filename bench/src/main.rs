@@ -1,20 +1,30 @@
-//! Times the proved library against plain Rust written by hand, and its points also against the recurrence of source
-//! document 002. All are first seen to give equal answers.
+//! Times the proved library against plain Rust written by hand, and its points also against the recurrence of
+//! the box spline. All are first seen to give equal answers.
 
 mod builds;
 mod hand;
+mod inspections;
+mod loads;
 mod points;
 mod table;
 mod timing;
+#[rustfmt::skip]
 #[path = "../../include/torskavel.rs"]
 mod torskavel;
 
 fn main() {
     table::print_header();
     for order in builds::ORDERS {
-        table::print_row(&builds::measure(order));
+        builds::measure(order).print();
     }
-    for (multiplicities, divisor) in points::CASES {
-        table::print_row(&points::measure(multiplicities, divisor));
+    for v in inspections::CASES {
+        inspections::measure(v).print();
     }
+    loads::measure().print();
+    let points = points::CASES.map(|(v, divisor, size)| {
+        let row = points::measure(v, divisor, size);
+        row.print();
+        row
+    });
+    table::print_shapes(&hand::TUNED.map(|(shape, _)| shape), &points);
 }

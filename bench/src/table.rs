@@ -1,15 +1,47 @@
-//! The table of ratios.
+//! The tables of ratios.
 
 use std::time::Duration;
 
-/// The shortest times of one call. What is not measured for a call is left out.
+/// The shortest times of one call.
 pub struct Row {
     pub call: String,
     pub library: Duration,
     pub hand: Duration,
-    pub tuned: Duration,
-    pub recursion: Option<Duration>,
-    pub recursion_with_tables: Option<Duration>,
+    /// Of each shape in which the call is tuned.
+    pub tuned: Vec<Duration>,
+    pub recursion: Option<Recursion>,
+}
+
+pub struct Recursion {
+    /// Each value by itself.
+    pub alone: Duration,
+    pub with_tables: Duration,
+}
+
+impl Row {
+    /// From the times of the library, the hand-written call and the tuned ones.
+    pub fn of(call: String, times: &[Duration]) -> Row {
+        Row { call, library: times[0], hand: times[1], tuned: times[2..].to_vec(), recursion: None }
+    }
+
+    /// The fastest of the tuned shapes.
+    fn fastest(&self) -> usize {
+        let shapes = 0..self.tuned.len();
+        shapes.min_by_key(|&shape| self.tuned[shape]).expect("each call is tuned")
+    }
+
+    pub fn print(&self) {
+        let over = |time: Option<Duration>| time.map_or(String::new(), |time| ratio(time, self.library));
+        println!(
+            "| {} | {:.2} | {} | {} | {} | {} |",
+            self.call,
+            self.library.as_secs_f64() * 1e6,
+            ratio(self.library, self.hand),
+            ratio(self.library, self.tuned[self.fastest()]),
+            over(self.recursion.as_ref().map(|recursion| recursion.alone)),
+            over(self.recursion.as_ref().map(|recursion| recursion.with_tables))
+        );
+    }
 }
 
 fn ratio(a: Duration, b: Duration) -> String {
@@ -19,20 +51,19 @@ fn ratio(a: Duration, b: Duration) -> String {
 
 pub fn print_header() {
     println!(
-        "| call | library, µs | library / hand-written | library / hand-tuned | recursion / library | recursion with tables / library |"
+        "| call | library, µs | library / hand-written | library / hand-tuned | recursion / library \
+         | recursion with tables / library |"
     );
     println!("|---|---|---|---|---|---|");
 }
 
-pub fn print_row(row: &Row) {
-    let over = |time: Option<Duration>| time.map_or(String::new(), |time| ratio(time, row.library));
-    println!(
-        "| {} | {:.2} | {} | {} | {} | {} |",
-        row.call,
-        row.library.as_secs_f64() * 1e6,
-        ratio(row.library, row.hand),
-        ratio(row.library, row.tuned),
-        over(row.recursion),
-        over(row.recursion_with_tables)
-    );
+/// The library and the tuned shapes, each over the hand-written call.
+pub fn print_shapes(shapes: &[&str], rows: &[Row]) {
+    println!("\n| over hand-written | library | {} | fastest |", shapes.join(" | "));
+    println!("|---|---|{}---|", "---|".repeat(shapes.len()));
+    for row in rows {
+        let ratios: Vec<String> = row.tuned.iter().map(|&time| ratio(time, row.hand)).collect();
+        let library = ratio(row.library, row.hand);
+        println!("| {} | {library} | {} | {} |", row.call, ratios.join(" | "), shapes[row.fastest()]);
+    }
 }

@@ -1,4 +1,4 @@
-//! What a build and an inspection of document 01 give back.
+//! What a build and an inspection give back: docs/SPECIFICATION.md, 6 and 7.
 
 use crate::net::{Multiplicities, Net};
 use crate::unit::{Refusal, Unit, refuse_if};

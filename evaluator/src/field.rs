@@ -1,4 +1,4 @@
-//! Field files and blocks of document 01.
+//! Field files and blocks: docs/SPECIFICATION.md, 8.
 
 use crate::random::Random;
 use crate::unit::{Refusal, Sizes, Unit, refuse_if};

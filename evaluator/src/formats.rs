@@ -15,7 +15,7 @@ pub fn number_lines<T: ToString>(word: &str, numbers: &[T]) -> String {
     numbers.chunks(16).map(|chunk| format!("{word} {}\n", join(chunk.iter().map(T::to_string)))).collect()
 }
 
-/// A net as program `shares` of document 01 prints it.
+/// A net as program `shares` prints it: docs/SPECIFICATION.md, 13.2.
 pub fn listing(net: &Net) -> String {
     let v = net.multiplicities;
     let mut text = format!("box {} degree {}\n", join(v.widths()), v.degree());

@@ -4,7 +4,7 @@
 //! tetrahedron's regular lattice, off every face. In the coordinates y_i = (m+4) L_i - 1 the lattice is the a
 //! themselves, and the polynomial that is 1 at a and 0 at every other one is the product over i of "y_i choose a_i".
 //! Written as a product of m forms, linear in the barycentric coordinates L (whose sum is 1), it expands to a
-//! homogeneous polynomial, from which the Bernstein coefficients of (8) and (9) of source document 002 are read off.
+//! homogeneous polynomial, from which the Bernstein coefficients of (8) and (9) of the article are read off.
 
 use crate::ratio::{Ratio, factorial, lcm};
 use std::collections::BTreeMap;

@@ -1,5 +1,5 @@
-//! Points answered from the numbers of a lent net, which may be no defined net: document 01's section "Answering a
-//! point" to the letter, with 23. On a defined net it must agree with module `point`.
+//! Points answered from the numbers of a lent net, which may be no defined net: docs/SPECIFICATION.md, 10
+//! and 11, to the letter, with 23. On a defined net it must agree with module `point`.
 
 use crate::interpolation::{Quadruple, factorials, quadruples};
 use crate::point::{Call, Fraction, Placed, place};

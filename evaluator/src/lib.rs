@@ -1,5 +1,6 @@
-//! An evaluator of four-direction box splines by the recurrence of source document 002, in exact arithmetic. Program
-//! `evaluator` prints what it computes; the harness of the C interface and the benchmark link it.
+//! An evaluator of four-direction box splines by their recurrence, in exact arithmetic. "The article" is the first of the
+//! sources in docs/SPECIFICATION.md. Program `evaluator` prints what it computes; the harness of the C interface and the
+//! benchmark link it.
 
 pub mod calls;
 pub mod field;

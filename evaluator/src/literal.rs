@@ -1,4 +1,4 @@
-//! Recurrence (1) and (2) of source document 002 word for word, in fractions and with the least-norm representation,
+//! Recurrence (1) and (2) of the article word for word, in fractions and with the least-norm representation,
 //! column by column and without a table. Slow; it is there to check module `recurrence`.
 
 use crate::ratio::Ratio;

@@ -1,11 +1,11 @@
-//! Nets: the Bézier coefficients of all tetrahedra, times m!, at document 01's places.
+//! Nets: the Bézier coefficients of all tetrahedra, times m!, at the places of docs/SPECIFICATION.md, 3.1.
 
 use crate::interpolation::{Interpolation, Quadruple};
 use crate::recurrence::{AXIS_ORDERS, Translates, cubes};
 
 pub const LARGEST_SUM: usize = 12;
 
-/// v1 to v4, within the limits of document 01.
+/// v1 to v4, within their limits.
 #[derive(Clone, Copy, PartialEq, Eq, Hash, PartialOrd, Ord, Debug)]
 pub struct Multiplicities([usize; 4]);
 
@@ -174,7 +174,7 @@ mod tests {
     }
 
     #[test]
-    fn the_figures_of_document_01() {
+    fn the_figures_worked_by_hand() {
         let simple = net([1, 1, 1, 1]);
         assert_eq!(simple.multiplicities.widths(), [3, 3, 3]);
         assert_eq!(simple.listing().collect::<Vec<_>>(), [([1, 1, 1], 1)]);
@@ -220,7 +220,7 @@ mod tests {
         }
     }
 
-    /// The matrix of M_211 in section 5 of source document 002 is the plane y = 1 of M_2111, z falling from row to row.
+    /// The matrix of M_211 in section 5 of the article is the plane y = 1 of M_2111, z falling from row to row.
     #[test]
     fn the_articles_matrix() {
         let net = net([2, 1, 1, 1]);

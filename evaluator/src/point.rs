@@ -1,6 +1,6 @@
 //! Points answered by the recurrence: N is the sum over the block of correction times m! D^m M(x - j).
 //!
-//! No net and no Bernstein sum takes part. Checks 21 to 13 are document 01's; 23 cannot apply to a defined net.
+//! No net and no Bernstein sum takes part. Checks 21 to 13 are those of a point call; 23 cannot apply to a defined net.
 
 use crate::field::NEVER_MEASURED;
 use crate::net::Multiplicities;
@@ -143,7 +143,7 @@ mod tests {
     use crate::field::Block;
     use crate::random::Random;
 
-    /// Document 01's block of 2, 2, 2 with the simple net.
+    /// The block of 2, 2, 2 of docs/SPECIFICATION.md, 14.6.
     fn small(second: i16) -> Block {
         let mut block = Block::constant(Sizes::new([2, 2, 2]).unwrap(), 0, 5);
         block.corrections[0] = 100;
@@ -160,7 +160,7 @@ mod tests {
     }
 
     #[test]
-    fn the_figures_of_document_01() {
+    fn the_figures_worked_by_hand() {
         let block = small(-40);
         let ask = |coordinates, divisor| ask(&block, [1; 4], coordinates, divisor);
         assert_eq!(ask([1, 1, 1], 1), Ok(Fraction::new(100, 5, 1)));

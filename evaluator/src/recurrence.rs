@@ -1,4 +1,4 @@
-//! Recurrence (1) and (2) of source document 002 for the four directions, at all whole-number translates of one point.
+//! Recurrence (1) and (2) of the article for the four directions, at all whole-number translates of one point.
 //!
 //! Equal columns of the direction matrix have equal terms in (1), so they are taken together: with T_i the sum of the
 //! t_h over the columns of direction i, of which there are v_i, and x = sum of T_i d_i,

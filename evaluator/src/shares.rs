@@ -1,4 +1,4 @@
-//! What the program `shares` of document 01 prints.
+//! What the program `shares` prints: docs/SPECIFICATION.md, 13.
 
 use crate::calls;
 use crate::formats::listing;
@@ -40,7 +40,7 @@ mod tests {
     use super::*;
 
     #[test]
-    fn the_whole_print_of_document_01() {
+    fn the_whole_print_of_no_input() {
         assert_eq!(Prints::default().print(b""), "box 3 3 3 degree 1\n1 1 1 1\n");
     }
 

@@ -1,4 +1,4 @@
-//! The unit record of document 01, its limits, and refusals.
+//! The unit record, its limits, and refusals: docs/SPECIFICATION.md, 4 and 5.
 
 use crate::formats::join;
 use crate::net::Multiplicities;
@@ -7,7 +7,7 @@ use std::fmt;
 const LARGEST_SIZE: usize = 64;
 const LARGEST_BLOCK: usize = 4096;
 
-/// The sizes n1, n2, n3 of a block, within the limits of document 01.
+/// The sizes n1, n2, n3 of a block, within their limits.
 #[derive(Clone, Copy, PartialEq, Eq, Debug)]
 pub struct Sizes([usize; 3]);
 
@@ -95,7 +95,7 @@ impl fmt::Display for Refusal {
     }
 }
 
-/// Refuses where a condition of document 01 applies.
+/// Refuses where a condition applies.
 pub fn refuse_if(condition: bool, refusal: impl Into<Refusal>) -> Result<(), Refusal> {
     if condition { Err(refusal.into()) } else { Ok(()) }
 }

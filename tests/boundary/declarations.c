@@ -14,6 +14,7 @@ static void show_constants(void) {
     SHOW(VERSION_PATCH);
     SHOW(MAX_CODE);
     SHOW(MAX_STACK);
+    SHOW(MAX_STACK_BUILD);
     SHOW(MAX_STACK_LOAD);
     SHOW(MAX_ORDER);
     SHOW(MAX_MULTIPLICITY_SUM);

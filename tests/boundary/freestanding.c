@@ -1,4 +1,4 @@
-/* Linked with the archive and nothing else, not even a C library: memset is all that it has to bring along. */
+/* Linked with the archive and nothing else, not even a C library: memset and memcpy are all that it has to bring along. */
 #include "torskavel.h"
 
 enum { PLACES = TORSKAVEL_PLACES(2, 2, 2, 1), ENTRIES = TORSKAVEL_ENTRIES(3, 3, 3) };
@@ -10,10 +10,18 @@ static uint16_t uncertainties[ENTRIES];
 static const uint8_t order[] = {1, 3, 2}, file[TORSKAVEL_FILE(3, 3, 3)] = {3, 0, 3, 0, 3, 0};
 
 void *memset(void *to, int byte, size_t count);
+void *memcpy(void *restrict to, const void *restrict from, size_t count);
 
 void *memset(void *to, int byte, size_t count) {
     volatile unsigned char *next = to;
     while (count-- > 0) *next++ = (unsigned char)byte;
+    return to;
+}
+
+void *memcpy(void *restrict to, const void *restrict from, size_t count) {
+    volatile unsigned char *next = to;
+    const unsigned char *read = from;
+    while (count-- > 0) *next++ = *read++;
     return to;
 }
 

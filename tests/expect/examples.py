@@ -6,7 +6,7 @@ Run in the repository, after `cargo build --release --offline` in evaluator/:
     python3 tests/expect/examples.py            writes examples/expected
     python3 tests/expect/examples.py --check    says whether it is current
 
-The evaluator has no unit without a net and no order by bytes, so 21 and 2 are told here by document 01's conditions.
+The evaluator has no unit without a net and no order by bytes, so 21 and 2 are told here by their conditions.
 """
 import struct
 import sys

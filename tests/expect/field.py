@@ -1,9 +1,8 @@
 #!/usr/bin/env python3
 """Makes what the program field_check must write.
 
-The answers come from document 01, sections "Field file and block" and "Refused because of what was
-handed in", by Python's own reading of little-endian and two's complement numbers; nothing of the
-library is used. Only the input files and the digest are made as the program makes them.
+The answers come from docs/SPECIFICATION.md, 5.3 and 8, by Python's own reading of little-endian and two's
+complement numbers; nothing of the library is used. Only the input files and the digest are made as the program makes them.
 
     python3 tests/expect/field.py              writes crates/field_check/stdout
     python3 tests/expect/field.py --check      says whether it is current

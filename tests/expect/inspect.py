@@ -6,8 +6,8 @@ Run in the repository, after `cargo build --release --offline` in evaluator/:
     python3 tests/expect/inspect.py            writes crates/inspect_check/stdin and crates/inspect_check/stdout
     python3 tests/expect/inspect.py --check    says whether both are current
 
-The nets are the evaluator's, which knows nothing of the step rule. The answers are document 01's, section "Inspecting":
-checks 3, 4, 14 in this order; 14 carries the lowest index that differs, every other refusal the place 0.
+The nets are the evaluator's, which knows nothing of the step rule. The answers are those of docs/SPECIFICATION.md, 7:
+checks 3, 4, 14 in this order; 14 has the lowest differing index as its place, every other refusal 0.
 """
 import math
 import sys

@@ -9,6 +9,8 @@ const LONGEST_ORDER: usize = 8;
 /// Writes the net with one repeat more: direction, shape and net before, shape and net after.
 type TakeUp = fn(u8, &Shape, &[u32], &Shape, &mut [u32]);
 
+pub type Build = fn(Unit, &[u8], &mut [u32], &mut [u32]) -> Result<Unit, Refusal>;
+
 /// Place by place. Checks 1, 2, 4.
 pub fn build(unit: Unit, order: &[u8], net: &mut [u32], work: &mut [u32]) -> Result<Unit, Refusal> {
     build_by(repeat::take_up, unit, order, net, work)
@@ -19,7 +21,13 @@ pub fn build_tuned(unit: Unit, order: &[u8], net: &mut [u32], work: &mut [u32]) 
     build_by(rows::take_up, unit, order, net, work)
 }
 
-fn build_by(take_up: TakeUp, unit: Unit, order: &[u8], net: &mut [u32], work: &mut [u32]) -> Result<Unit, Refusal> {
+fn build_by(
+    take_up: TakeUp,
+    unit: Unit,
+    order: &[u8],
+    net: &mut [u32],
+    work: &mut [u32],
+) -> Result<Unit, Refusal> {
     if order.len() > LONGEST_ORDER {
         return refuse(1);
     }

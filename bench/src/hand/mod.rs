@@ -1,12 +1,13 @@
-//! The calls of document 01 as one would write them in plain Rust: safe, with slices and nested loops, and with all of its
-//! refusals in its order. The unit record is the library's, so that both are handed the same values.
+//! The calls of docs/SPECIFICATION.md as one would write them in plain Rust: safe, with slices and nested
+//! loops, and with all refusals in the order of its section 5.4. The unit record is the library's, so that
+//! both are handed the same values.
 //!
-//! Each call comes twice: straight from the paper, and tuned after a look at where the time goes.
+//! Each call comes straight from its section, and tuned after a look at where the time goes; a point in
+//! several tuned shapes.
 
-mod bernstein;
 mod build;
-mod checks;
-mod place;
+mod inspect;
+mod load;
 mod point;
 mod repeat;
 mod rows;
@@ -14,11 +15,13 @@ mod shape;
 mod split;
 #[cfg(test)]
 mod tests;
-mod window;
 
 pub use build::{build, build_tuned};
-pub use checks::Call;
-pub use point::{Fraction, answer, answer_tuned};
+pub use inspect::{defined_order, inspect, inspect_tuned};
+pub use load::{Load, load, load_tuned};
+pub use point::{Call, Fraction, TUNED, answer};
+
+use crate::torskavel::{Unit, UnitAnswer};
 
 /// A refusal's number, and the index or position that it speaks of; 0 where it speaks of none.
 #[derive(Clone, Copy, PartialEq, Eq, Debug)]
@@ -33,4 +36,12 @@ fn refuse<T>(number: u32) -> Result<T, Refusal> {
 
 fn refuse_at<T>(number: u32, place: usize) -> Result<T, Refusal> {
     Err(Refusal { number, place })
+}
+
+/// The library's answer, as the calls here give theirs.
+pub fn result(answer: UnitAnswer) -> Result<Unit, Refusal> {
+    match answer.number {
+        0 => Ok(answer.unit),
+        number => Err(Refusal { number, place: answer.place }),
+    }
 }

@@ -25,11 +25,15 @@ impl Shape {
         Shape { degree, extents, widths: extents.map(|e| degree * e + 1) }
     }
 
+    /// Of multiplicities that may break the limits.
+    pub fn allowed(v: [u8; 4]) -> Option<Shape> {
+        let allowed = !v.contains(&0) && v.iter().map(|&v| u32::from(v)).sum::<u32>() <= LARGEST_SUM;
+        allowed.then(|| Shape::of(v))
+    }
+
     /// Of the net that a unit counts as having.
     pub fn of_unit(unit: &Unit) -> Option<Shape> {
-        let v = [unit.v1, unit.v2, unit.v3, unit.v4];
-        let allowed = !v.contains(&0) && v.iter().map(|&v| u32::from(v)).sum::<u32>() <= LARGEST_SUM;
-        (unit.has_net == 1 && allowed).then(|| Shape::of(v))
+        Shape::allowed([unit.v1, unit.v2, unit.v3, unit.v4]).filter(|_| unit.has_net == 1)
     }
 
     pub fn places(&self) -> usize {
@@ -42,9 +46,15 @@ impl Shape {
     }
 }
 
+/// Sizes of a block, where they keep the limits.
+pub fn allowed_sizes(n: [u16; 3]) -> Option<[usize; 3]> {
+    let n = n.map(usize::from);
+    let allowed =
+        n.iter().all(|n| (1..=LARGEST_SIZE).contains(n)) && n.iter().product::<usize>() <= LARGEST_BLOCK;
+    allowed.then_some(n)
+}
+
 /// n1, n2, n3 of the block that a unit counts as having.
 pub fn block_sizes(unit: &Unit) -> Option<[usize; 3]> {
-    let n = [unit.n1, unit.n2, unit.n3].map(usize::from);
-    let allowed = n.iter().all(|n| (1..=LARGEST_SIZE).contains(n)) && n.iter().product::<usize>() <= LARGEST_BLOCK;
-    (unit.has_block == 1 && allowed).then_some(n)
+    allowed_sizes([unit.n1, unit.n2, unit.n3]).filter(|_| unit.has_block == 1)
 }

@@ -1,6 +1,7 @@
-// The calls for C and for any language that can call C: they take and answer a flat record in the place of
-// a unit, and answer a flat struct in the place of an enum. Any bytes may stand in the record.
+// The calls for C and for any language that can call C: they take and answer a flat record in the place of a
+// unit, and answer a flat struct in the place of an enum. Any bytes may stand in the record.
 // include/torskavel.h declares the calls, and says what such a caller owes.
+// docs/SPECIFICATION.md, Section 12.
 ghost use mathlib.Core.Path.{_≡_};
 ghost use lib.ListN.{length};
 ghost use Rattle.spline.specs.Multiplicities.{multiplicities};

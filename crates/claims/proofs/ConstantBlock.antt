@@ -24,18 +24,19 @@ use Rattle.unit.specs.Unit.{netOf}
 use Rattle.unit.specs.declared.Checked.the-variants.{Passed}
 use Rattle.unit.specs.declared.Unit.{Unit}
 use Rattle.placing.proofs.Ranks.{weights-add-up}
-use Rattle.placing.proofs.Placed.{point-accepted}
-use Rattle.placing.specs.Place.{pointChecks, scale}
+use Rattle.placing.proofs.Placed.{lent, point-accepted}
+use Rattle.placing.specs.Place.{lentChecks, pointChecks, scale}
 use Rattle.placing.specs.Inner.Ranking.{weightSum}
 use Rattle.placing.specs.Placing.{placing, placingCell, sizes}
 use Rattle.placing.specs.declared.Placing.{Placing}
-use Rattle.point.proofs.Answers.{fit, lent}
-use Rattle.point.proofs.LocalPlaces.{local-le}
-use Rattle.point.proofs.Windows.{entry-in}
-use Rattle.point.specs.Answer.{correctionAt, lentChecks, numberAt, pointAnswer, uncertaintyAt}
-use Rattle.point.specs.Blending.{blendedCorrection, firstGap, inWindowOn, isGap, localPlace, share}
-use Rattle.point.specs.Blending.{shiftNumerator}
-use Rattle.point.specs.Blending.{shareSum, uncertaintyNumerator, windowGap}
+use Rattle.blending.proofs.Answers.{fit}
+use Rattle.blending.proofs.LocalPlaces.{local-le}
+use Rattle.blending.proofs.Windows.{entry-in}
+use Rattle.blending.specs.Blend.{correctionAt, numberAt, uncertaintyAt}
+use Rattle.point.specs.Answer.{pointAnswer}
+use Rattle.blending.specs.Blending.{blendedCorrection, localPlace, share, shareSum}
+use Rattle.blending.specs.Gaps.{firstGap, inWindowOn, isGap, windowGap}
+use Rattle.point.specs.Bernstein.{shiftNumerator, uncertaintyNumerator}
 use Rattle.point.specs.declared.PointAnswer.{PointAnswer}
 use Rattle.point.specs.declared.PointAnswer.the-variants.{Value}
 use Rattle.claims.proofs.Fraction.{fraction}

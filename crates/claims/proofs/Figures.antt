@@ -1,4 +1,4 @@
--- All figures that document 01 marks P follow from the definitions, by computing.
+-- All figures that were worked by hand follow from the definitions, by computing.
 use mathlib.Core.Path.{refl}
 use Rattle.sums.specs.Coefficient.{factorial, multinomial}
 use Rattle.sums.specs.Fill.{tabulate}
@@ -10,11 +10,14 @@ use Rattle.spline.specs.Build.{built, simple, stepped, sumBack}
 use Rattle.spline.specs.Multiplicities.{allowed}
 use Rattle.spline.specs.Rule.{lowerAbove}
 use Rattle.unit.specs.Unit.{hasBlock, hasNet, sizeAllowed, sizesAllowed}
-use Rattle.placing.specs.Place.{pointChecks, unitChecks}
+use Rattle.placing.specs.Place.{lentChecks, pointChecks, unitChecks}
 use Rattle.placing.specs.Placing.{inside, placing, rankAxes, withThird}
-use Rattle.point.specs.Answer.{lentChecks, pointAnswer, valueAnswer, valueChecks}
-use Rattle.point.specs.Blending.{addsUp, allSimplex, blendedCorrection, blendedUncertainty, firstGap}
-use Rattle.point.specs.Blending.{localPlace, share, shareSum, shiftNumerator, uncertaintyNumerator, windowGap}
+use Rattle.blending.specs.Blend.{windowChecks}
+use Rattle.point.specs.Answer.{pointAnswer, valueAnswer}
+use Rattle.blending.specs.Blending.{addsUp, allSimplex, blendedCorrection, blendedUncertainty, localPlace}
+use Rattle.blending.specs.Blending.{share, shareSum}
+use Rattle.blending.specs.Gaps.{firstGap, windowGap}
+use Rattle.point.specs.Bernstein.{shiftNumerator, uncertaintyNumerator}
 use Rattle.claims.specs.Demands.{AllFigures}
 use Rattle.claims.specs.Figures.{AllHold, pointFigures}
 
@@ -23,7 +26,7 @@ unfolding sumTo sumZ sumBox sumBoxZ factorial multinomial sumSimplex sumSimplexZ
     tabulate lowerAbove simple sumBack stepped built allowed netList hasNet sizeAllowed sizesAllowed hasBlock
     inside withThird rankAxes placing localPlace share shareSum blendedCorrection blendedUncertainty
     shiftNumerator uncertaintyNumerator allSimplex addsUp windowGap firstGap unitChecks pointChecks lentChecks
-    valueChecks valueAnswer pointAnswer
+    windowChecks valueAnswer pointAnswer
 all-figures = (refl, ((refl, refl, refl), (refl, (refl, (refl, (refl, (refl, (refl, points))))))))
   where
     points : AllHold pointFigures

@@ -1,4 +1,4 @@
--- Demand 1 at the C interface: no refusal has the number 0, so a flat answer's number tells.
+-- Refusals at the C interface: none has the number 0, so a flat answer's number tells.
 use Rattle.net.specs.Build.{buildAnswer}
 use Rattle.inspection.specs.Inspect.{inspectAnswer}
 use Rattle.field.specs.Load.{loadAnswer}

@@ -3,7 +3,7 @@ use mathlib.Core.Path.{_∙_}
 use Rattle.unit.specs.Unit.{netOf}
 use Rattle.placing.specs.Placing.{placing, sizes}
 use Rattle.point.proofs.Answers.{point-valued, value-is}
-use Rattle.point.specs.Answer.{correctionAt, numberAt, uncertaintyAt}
+use Rattle.blending.specs.Blend.{correctionAt, numberAt, uncertaintyAt}
 use Rattle.claims.specs.Demands.{Fraction}
 
 pub fraction : Fraction

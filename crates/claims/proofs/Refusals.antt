@@ -1,4 +1,4 @@
--- Every refusal of a call has one of the numbers of document 01: each check's number is listed.
+-- Every refusal of a call has a listed number, since each check's number is listed.
 use mathlib.Core.Bool.{Bool, _||_, false, not, true}
 use mathlib.Core.List.{List}
 use mathlib.Core.Path.{_∙_, _≡_, ap, refl, subst, sym}
@@ -25,11 +25,13 @@ use Rattle.inspection.specs.Inspect.{definedNumber, differsFrom, inspectAnswer,
 use Rattle.field.specs.File.{entryCount, fileLength, headerLength, size1, size2, size3, uncertainty}
 use Rattle.field.specs.Load.{layoutChecks, limitCheck, loadAnswer, loadChecks}
 use Rattle.placing.proofs.Placed.{refused-by}
-use Rattle.placing.specs.Place.{limit, placeAnswer, pointChecks, scale, unitChecks}
+use Rattle.placing.specs.Place.{lentChecks, limit, placeAnswer, pointChecks, scale, unitChecks}
 use Rattle.placing.specs.Placing.{cells, inside, placingCell, sizes}
 use Rattle.placing.specs.declared.Placing.{Placing}
-use Rattle.point.specs.Answer.{lentChecks, pointAnswer, valueAnswer, valueChecks}
-use Rattle.point.specs.Blending.{addsUp, firstGap}
+use Rattle.blending.specs.Blend.{windowChecks}
+use Rattle.point.specs.Answer.{pointAnswer, valueAnswer}
+use Rattle.blending.specs.Blending.{addsUp}
+use Rattle.blending.specs.Gaps.{firstGap}
 use Rattle.point.specs.declared.PointAnswer.{PointAnswer}
 use Rattle.point.specs.declared.PointAnswer.the-variants.{Refused}
 use Rattle.claims.specs.Demands.{NotZero, Numbers}
@@ -127,9 +129,9 @@ point-refused (Stopped s) made {r} l m h = let e : Stopped s ≡ Stopped r = cc 
 value-numbered : (v : Multiplicities) (n : Axis → ℕ) (net : ℕ → ℕ) (corrections : ℕ → ℕ → ℕ → ℤ)
     (uncertainties : ℕ → ℕ → ℕ → ℕ) (q : Placing) (D : ℕ) {r : Refusal}
     → valueAnswer v n net corrections uncertainties q D ≡ Refused r → listed (r .number) ≡ true
-unfolding valueAnswer valueChecks
+unfolding valueAnswer windowChecks
 value-numbered v n net corrections uncertainties q D h =
-    point-refused (valueChecks v n net corrections q) _
+    point-refused (windowChecks v n net corrections q) _
     (at-numbered 13 (firstGap v n corrections (placingCell q)) _ refl
     (if-numbered 23 (not (addsUp v net q)) Passed refl tt))
     (λ e. let z : _≡_ {A = ℕ} 0 1 = cc in absurd (omega arith))

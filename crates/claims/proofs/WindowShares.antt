@@ -21,9 +21,9 @@ use Rattle.spline.specs.Defined.{defined}
 use Rattle.spline.specs.Multiplicities.{Multiplicities, degree, extent}
 use Rattle.spline.specs.Place.{Axis, a1, a2, a3, place}
 use Rattle.placing.specs.Placing.{placing}
-use Rattle.point.proofs.LocalPlaces.{local-le}
-use Rattle.point.specs.Answer.{numberAt}
-use Rattle.point.specs.Blending.{addsUp, allSimplex, localPlace, share, shareSum}
+use Rattle.blending.proofs.LocalPlaces.{local-le}
+use Rattle.blending.specs.Blend.{numberAt}
+use Rattle.blending.specs.Blending.{addsUp, allSimplex, localPlace, share, shareSum}
 use Rattle.claims.specs.Nets.{HoldsDefined}
 
 module _ (v : Multiplicities) (p : Positive v) (net : List ℕ)

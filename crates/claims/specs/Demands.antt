@@ -1,6 +1,6 @@
--- The demands on the library, each as one closed statement; a law in `proofs/` is of exactly this type.
--- They speak of the definitions that contracts cite: what a call answers, and what it leaves in the slices
--- that it was lent. Demands have numbers, and their sentences are counted without the ground that ends each.
+-- The demands on the library, each as one closed statement; a law in `proofs/` is of exactly this type. They
+-- speak of the definitions that contracts cite: what a call answers, and what it leaves in the slices that
+-- it was lent. docs/ARCHITECTURE.md lists the demands, docs/SPECIFICATION.md, Section 14, the statements.
 use mathlib.Core.Bool.{true}
 use mathlib.Core.List.{List, map}
 use mathlib.Core.Logic.{_↔_}
@@ -24,10 +24,13 @@ use Rattle.net.specs.Build.{buildAnswer, buildNet, buildWork}
 use Rattle.net.specs.Order.{buildChecks, orderChecks, orderPlaces, orderWidth}
 use Rattle.inspection.specs.Inspect.{inspectAnswer}
 use Rattle.field.specs.Load.{loadAnswer, loadCorrections, loadUncertainties}
-use Rattle.placing.specs.Place.{pointChecks, scale}
+use Rattle.placing.specs.Place.{lentChecks, pointChecks, scale}
 use Rattle.placing.specs.Placing.{placing, placingCell, sizes}
-use Rattle.point.specs.Answer.{correctionAt, lentChecks, numberAt, pointAnswer, uncertaintyAt}
-use Rattle.point.specs.Blending.{addsUp, firstGap, shiftNumerator, uncertaintyNumerator}
+use Rattle.blending.specs.Blend.{correctionAt, numberAt, uncertaintyAt}
+use Rattle.point.specs.Answer.{pointAnswer}
+use Rattle.blending.specs.Blending.{addsUp}
+use Rattle.blending.specs.Gaps.{firstGap}
+use Rattle.point.specs.Bernstein.{shiftNumerator, uncertaintyNumerator}
 use Rattle.point.specs.declared.Fraction as fraction
 use Rattle.point.specs.declared.PointAnswer.the-variants.{Value}
 use Rattle.flat.specs.Flat.{flatBlock, flatNet, flatPoint, unitOf}
@@ -40,17 +43,17 @@ use Rattle.claims.specs.Refusals.{Met, listed}
 
 -- ---- demand 1
 
--- Demand 1, an answer or a numbered refusal: whatever a call is handed, a refusal that it answers has one of
--- document 01's numbers. That a call answers at all is its contract, which asks nothing of the caller.
+-- Section 14.1, an answer or a numbered refusal: whatever a call is handed, a refusal that it answers has one
+-- of the listed numbers. That a call answers at all is its contract, which asks nothing of the caller.
 abbrev pub Numbers : Type 0
 Numbers = (r : Refusal) → Met r → listed (r .number) ≡ true
 
--- So no refusal has the number 0.
+-- Section 14.1: so no refusal has the number 0.
 abbrev pub NotZero : Type 0
 NotZero = (r : Refusal) → Met r → r .number ≡ 0 → ⊥
 
--- Demand 1 at the C interface: the number that a caller looks at is 0 exactly where the call was not refused,
--- whatever bytes the record that it handed in holds.
+-- Section 14.1, the same at the C interface: the number that a caller looks at is 0 exactly where the call
+-- was not refused, whatever bytes the record that it handed in holds.
 abbrev pub FlatNumbers : Type 0
 FlatNumbers =
     (u : FlatUnit)
@@ -67,7 +70,7 @@ FlatNumbers =
     → (let answer = pointAnswer (unitOf u) net corrections uncertainties x y z D in
     (flatPoint answer .number ≡ 0) ↔ ((value : fraction.Fraction) × (answer ≡ Value value))))
 
--- Demand 1, what a refusal leaves: a refused build leaves the net slice and the work slice as found, a
+-- Section 14.1, what a refusal leaves: a refused build leaves the net slice and the work slice as found, a
 -- refused load both block slices. A point call writes to no slice, an inspection only to its two work slices;
 -- and a refused answer carries no unit.
 abbrev pub Unchanged : Type 0
@@ -84,10 +87,9 @@ Unchanged =
 
 -- ---- demand 2
 
--- Demand 2, the numbers of a net: document 01 has the step rule give the Bézier coefficients times the
--- factorial of the degree. The numbers that a build writes, with zeros outside the box, are at every place of
--- ℤ³ those of the one net to which the rule leads when it takes up the order's bytes, starting at the simple
--- net.
+-- Section 14.2, the numbers of a net: the step rule defines them (Section 3.1). What a build writes, with
+-- zeros outside the box, is at every place of ℤ³ the one net to which the rule leads when it takes up the
+-- order's bytes, starting at the simple net.
 abbrev pub Written : Type 0
 Written =
     (order net : List ℕ) (workLength : ℕ)
@@ -96,25 +98,26 @@ Written =
     → Follows (map direction order) 1 simple R
     ↔ ((q : Place) → spread (orderWidth order) (buildNet order net workLength) q ≡ R q)
 
--- The net that the contract of a build cites is, for any bytes, the one to which the rule leads.
+-- Section 14.2: the net that the contract of a build cites is, for any bytes, the one to which the rule
+-- leads.
 abbrev pub Rule : Type 0
 Rule = (order : List ℕ) (R : Net) → Follows (map direction order) 1 simple R ↔ (R ≡ orderNet order)
 
--- The defined net, with which an inspection compares, is the one to which the rule leads in the defined
--- order.
+-- Section 14.2: the defined net, with which an inspection compares, is the one to which the rule leads in the
+-- defined order.
 abbrev pub DefinedRule : Type 0
 DefinedRule = (v : Multiplicities) (R : Net) → Follows (definedOrder v) 1 simple R ↔ (R ≡ defined v)
 
--- Any net that was built or passed is, with zeros outside the box, the one to which the rule leads in the
--- defined order of its multiplicities.
+-- Section 14.2: any net that was built or passed is, with zeros outside the box, the one to which the rule
+-- leads in the defined order of its multiplicities.
 abbrev pub Held : Type 0
 Held =
     (v : Multiplicities) (s : List ℕ) → BuiltOrPassed v s
     → (R : Net)
     → Follows (definedOrder v) 1 simple R ↔ ((q : Place) → spread (width v) s q ≡ R q)
 
--- Demand 2, the exact fraction: where no check of a point call applies, it answers document 01's N, U and
--- m!×D^m, of the numbers in the lent slices, whatever these are.
+-- Section 14.5, the exact fraction: where no check of a point call applies, it answers the N, U and m!×D^m of
+-- Section 11, of the numbers in the lent slices, whatever these are.
 abbrev pub Fraction : Type 0
 Fraction =
     (u : Unit) (net : List ℕ) (corrections : List ℤ) (uncertainties : List ℕ) (x y z D : ℕ)
@@ -134,10 +137,10 @@ Fraction =
 
 -- ---- demand 3: builds
 
--- Demand 3, first sentence. Of two orders the first has at most eight bytes, each 1 to 4, and the second has
--- as many of each byte; both builds are lent enough room. Then 1 and 2 do not apply to the second either.
--- Whatever units and slices held before, each build answers its unit with a net of the first order's
--- multiplicities, and the defined net of these is what its net slice then begins with.
+-- Section 14.3. Of two orders the first has at most eight bytes, each 1 to 4, and the second has as many of
+-- each byte; both builds are lent enough room. Then 1 and 2 do not apply to the second either. Whatever units
+-- and slices held before, each build answers its unit with a net of the first order's multiplicities, and the
+-- defined net of these is what its net slice then begins with.
 abbrev pub Orders : Type 0
 Orders =
     (order₁ order₂ : List ℕ)
@@ -152,9 +155,9 @@ Orders =
 
 -- ---- demand 3: inspections
 
--- Demand 3, second sentence. Where neither 3 nor 4 applies, an inspection passes exactly the numbers that,
--- with zeros outside the box, obey the rule at every place of ℤ³ in every direction with a repeat; with no
--- repeat, exactly the simple net.
+-- Section 14.4. Where neither 3 nor 4 applies, an inspection passes exactly the numbers that, with zeros
+-- outside the box, obey the rule at all places of ℤ³ in all directions with a repeat; with no repeat, exactly
+-- the simple net.
 abbrev pub Inspector : Type 0
 Inspector =
     (u : Unit) (v : Multiplicities) (net : List ℕ) (definedLength workLength : ℕ)
@@ -162,8 +165,8 @@ Inspector =
     → places (width v) ≤ length net → places (width v) ≤ definedLength → places (width v) ≤ workLength
     → (inspectAnswer u v net definedLength workLength ≡ Changed (withNet u v)) ↔ RightNumbers v net
 
--- There it refuses by 14 all other numbers, those that are not the defined net, and the place is the lowest
--- index that differs.
+-- Section 14.4: there it refuses by 14 all other numbers, those that are not the defined net, and the place
+-- is the lowest index that differs.
 abbrev pub Differing : Type 0
 Differing =
     (u : Unit) (v : Multiplicities) (net : List ℕ) (definedLength workLength : ℕ)
@@ -174,15 +177,15 @@ Differing =
     × (inspectAnswer u v net definedLength workLength ≡ Refused (refusal 14 i))
     × LowestDifference v net i
 
--- Whatever an inspection is handed, the place of a 14 is the lowest index that differs.
+-- Section 14.4: whatever an inspection is handed, the place of a 14 is the lowest index that differs.
 abbrev pub Lowest : Type 0
 Lowest =
     (u : Unit) (v : Multiplicities) (net : List ℕ) (definedLength workLength i : ℕ)
     → inspectAnswer u v net definedLength workLength ≡ Refused (refusal 14 i)
     → LowestDifference v net i
 
--- Demand 3, third sentence. Numbers that obey the rule at every place of ℤ³ in one direction with a repeat
--- obey it in every such direction.
+-- Section 14.4. Numbers that obey the rule at all places of ℤ³ in one direction with a repeat obey it in all
+-- of them.
 abbrev pub OneDirection : Type 0
 OneDirection =
     (v : Multiplicities) → allowed v ≡ true
@@ -192,10 +195,10 @@ OneDirection =
 
 -- ---- demand 3: points
 
--- Demand 3, fourth sentence. A net was built or passed; a unit has a net of its multiplicities, and the lent
--- net slice still holds it; each entry of the block is the same measured correction c, with any uncertainty.
--- Where none of 21, 22, 4, 9 applies and neither does 10 nor 11, each point inside is answered with document
--- 01's fraction, and N is c×m!×D^m.
+-- Section 14.5. A net was built or passed; a unit has a net of its multiplicities, and the lent net slice
+-- still holds it; each entry of the block has the same correction c, which is no gap, and any uncertainty.
+-- Where none of 21, 22, 4, 9, 10, 11, 12 applies, the answer is the fraction of Section 11, and N is
+-- c×m!×D^m.
 abbrev pub ConstantBlock : Type 0
 ConstantBlock =
     (v : Multiplicities) (s : List ℕ) → BuiltOrPassed v s
@@ -213,8 +216,8 @@ ConstantBlock =
       denominator = scale (degree v) D;
     })
 
--- ---- document 01's figures
+-- ---- figures
 
--- Each figure that document 01 marks P follows from the definitions.
+-- Section 14.6: each figure that was worked by hand follows from the definitions.
 abbrev pub AllFigures : Type 0
 AllFigures = AllHold figures

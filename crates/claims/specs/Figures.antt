@@ -1,4 +1,4 @@
--- The hand-computed figures that document 01 marks P, as one list.
+-- The figures that were worked by hand, as one list: Section 14.6.
 use mathlib.Core.List.{List, [], _∷_}
 use mathlib.Core.Path.{_≡_}
 use mathlib.Core.Bool.{true}

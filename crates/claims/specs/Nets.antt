@@ -1,4 +1,4 @@
--- What the statements on builds and inspections cite: document 01, section "What demand 3 speaks of".
+-- What the statements on builds and inspections cite: Sections 14.3, 14.4.
 use mathlib.Core.Bool.{cond, true}
 use mathlib.Core.List.{List, [], _∷_}
 use mathlib.Core.Path.{_≡_}
@@ -17,33 +17,33 @@ use Rattle.unit.specs.declared.UnitAnswer.the-variants.{Changed}
 use Rattle.net.specs.Build.{buildAnswer, buildNet}
 use Rattle.inspection.specs.Inspect.{definedNumber}
 
--- how often a byte stands in an order
+-- Section 14.3: how often a byte stands in an order
 abbrev pub countByte : ℕ → List ℕ → ℕ
 countByte b [] = 0
 countByte b (x ∷ xs) = cond (eqb b x) (suc (countByte b xs)) (countByte b xs)
 
--- the slice's first W1×W2×W3 places hold the defined net of these multiplicities
+-- Section 14.3: the slice begins with the defined net of these multiplicities
 abbrev pub HoldsDefined : Multiplicities → List ℕ → Type 0
 HoldsDefined v s = take (places (width v)) s ≡ netList (width v) (defined v)
 
--- A build that is not refused: its answer is the unit with a net of these multiplicities, this counts as
--- having a net, and the net slice then holds the defined net.
+-- Section 14.3: a build that is not refused. Its answer is the unit with a net of these multiplicities, this
+-- counts as having a net, and the net slice then holds the defined net.
 pub record BuildsDefined (v : Multiplicities) (u : Unit) (order net : List ℕ) (workLength : ℕ) : Type 0 where
   pub answered : buildAnswer u order (length net) workLength ≡ Changed (withNet u v)
   pub has-net : hasNet (withNet u v) ≡ true
   pub holds : HoldsDefined v (buildNet order net workLength)
 
--- The step rule in one direction, at every place of ℤ³: C is the slice's numbers, and 0 outside the box,
--- and G the defined net with one repeat of the direction fewer.
+-- Section 14.4: the step rule in one direction, at all places of ℤ³. C is the slice's numbers with zeros
+-- outside the box, and G the defined net with one repeat of the direction fewer.
 abbrev pub ObeysIn : Direction → Multiplicities → List ℕ → Type 0
 ObeysIn d v s = Obeys d (degree (fewer d v)) (defined (fewer d v)) (spread (width v) s)
 
--- the rule in every direction that has a repeat; the simple net where none has
+-- Section 14.4: the rule in all directions that have a repeat; the simple net where none has
 pub record RightNumbers (v : Multiplicities) (s : List ℕ) : Type 0 where
   pub repeats : (d : Direction) → HasRepeat d v → ObeysIn d v s
   pub plain : ((d : Direction) → HasRepeat d v → ⊥) → take (places (width v)) s ≡ netList (width v) simple
 
--- i is the lowest index of the box at which a slice differs from the defined net
+-- Section 14.4: i is the lowest index of the box at which a slice differs from the defined net
 pub record LowestDifference (v : Multiplicities) (s : List ℕ) (i : ℕ) : Type 0 where
   pub in-box : i < places (width v)
   pub differs : getD s i 0 ≡ definedNumber v i → ⊥

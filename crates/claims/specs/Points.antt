@@ -1,4 +1,4 @@
--- What the statement on points cites: document 01, section "What demand 3 speaks of".
+-- What the statement on points cites: Section 14.5.
 use mathlib.Core.Bool.{false}
 use mathlib.Core.List.{List}
 use mathlib.Core.Path.{_≡_}
@@ -10,17 +10,17 @@ use Rattle.unit.specs.declared.Checked.the-variants.{Passed}
 use Rattle.net.specs.Build.{buildNet}
 use Rattle.net.specs.Order.{buildChecks}
 use Rattle.inspection.specs.Inspect.{inspectChecks}
-use Rattle.point.specs.Blending.{isGap}
+use Rattle.blending.specs.Gaps.{isGap}
 
--- The multiplicities and the numbers of a net that a build wrote or an inspection read, neither refused:
--- the net slice after the build, or at the inspection.
+-- Section 14.5: the multiplicities and the numbers of a net that was built or passed, the net slice after a
+-- build or at an inspection that was not refused.
 pub data BuiltOrPassed : Multiplicities → List ℕ → Type 0 where
   built : (order net : List ℕ) (workLength : ℕ) → buildChecks order (length net) workLength ≡ Passed
       → BuiltOrPassed (orderMultiplicities order) (buildNet order net workLength)
   passed : (v : Multiplicities) (net : List ℕ) (definedLength workLength : ℕ)
       → inspectChecks v net definedLength workLength ≡ Passed → BuiltOrPassed v net
 
--- the first n corrections are all c, and c is not the mark of an entry that was never measured
+-- Section 14.5: the first n corrections are all c, and c is not the mark of a gap
 pub record Constant (n : ℕ) (corrections : List ℤ) (c : ℤ) : Type 0 where
   pub measured : isGap c ≡ false
   pub throughout : (i : ℕ) → i < n → getD corrections i (pos 0) ≡ c

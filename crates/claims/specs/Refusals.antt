@@ -1,5 +1,4 @@
--- What the statements on refusals cite: the numbers of document 01's two lists, and the refusals that calls
--- meet.
+-- What the statements on refusals cite, the listed numbers and the refusals that calls meet: Section 14.1.
 use mathlib.Core.Bool.{Bool, _&&_, _||_}
 use mathlib.Core.List.{List}
 use mathlib.Core.Path.{_≡_}
@@ -18,11 +17,11 @@ use Rattle.placing.specs.declared.PlacingAnswer.the-variants as placings
 use Rattle.point.specs.declared.PointAnswer.the-variants as points
 use Rattle.unit.specs.declared.UnitAnswer.the-variants as units
 
--- 1 to 14, and 21 to 23
+-- Section 5.3: the numbers of refusals, 1 to 14 and 21 to 23
 abbrev pub listed : ℕ → Bool
 listed n = leb 1 n && leb n 14 || leb 21 n && leb n 23
 
--- a call, on whatever it was handed, answered the refusal r
+-- Section 14.1: a call, on whatever it was handed, answered the refusal r
 pub data Met (r : Refusal) : Type 0 where
   by-build : (u : Unit) (order : List ℕ) (netLength workLength : ℕ)
       → buildAnswer u order netLength workLength ≡ units.Refused r → Met r

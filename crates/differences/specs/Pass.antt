@@ -1,4 +1,4 @@
--- The first pass of a repeat: the differences at every place of the new box.
+-- The first pass of a repeat, the differences at every place of the new box: Section 6.3.
 use mathlib.Core.Bool.{Bool, _&&_, cond}
 use mathlib.Core.List.{List}
 use Prim.Native.Nat.{ℕ}
@@ -13,7 +13,7 @@ use Rattle.spline.specs.Rule.{ruleRight}
 use Rattle.shape.specs.Shape.{heldIn, widths}
 use Rattle.shape.specs.declared.Shape.{Shape}
 
--- the right side of the rule at the place one d before q, for G of degree g
+-- Section 6.3: the right side of the rule at q − d, for G of degree g
 abbrev pub difference : Direction → ℕ → Net → Place → ℤ
 difference d g G q = ruleRight d g G (q ⊖ d)
 

@@ -1,5 +1,5 @@
 // The first pass of a repeat: at every place of the new box, the right side of the step rule at the place one
-// step of the direction before it.
+// step of the direction before it. docs/SPECIFICATION.md, Section 6.3.
 ghost use mathlib.Core.Path.{_≡_};
 ghost use Prim.Native.Nat.{_+_, _*_, _≤_, _<_};
 ghost use lib.ListN.{length};

@@ -1,4 +1,4 @@
--- What a load answers and leaves in its slices: document 01, section "Field file and block".
+-- What a load answers and leaves in its slices: Sections 8.3, 8.4.
 use mathlib.Core.Bool.{not}
 use mathlib.Core.List.{List}
 use Prim.Native.Nat.{ℕ}
@@ -17,32 +17,32 @@ use Rattle.unit.specs.declared.UnitAnswer.the-variants.{Changed, Refused}
 use Rattle.field.specs.File.{correction, entryCount, fileLength, headerLength, uncertainty}
 use Rattle.field.specs.File.{size1, size2, size3}
 
--- "5 file under 6 bytes", "6 a size or the product out of limits", "7 length is not 6+4×n"
+-- Section 8.3: 5, 6 and 7, on the file's sizes and its length
 unfoldable pub layoutChecks : List ℕ → Checked
 layoutChecks file =
     refuseIf 5 (ltb (length file) headerLength)
     (refuseIf 6 (not (sizesAllowed (size1 file) (size2 file) (size3 file)))
     (refuseIf 7 (not (eqb (length file) (fileLength (entryCount file)))) Passed))
 
--- "8 an uncertainty above 32767"; of several entries the lowest index
+-- Section 8.3: 8, at the first entry whose uncertainty is over the limit
 abbrev pub limitCheck : ℕ → (ℕ → ℕ) → Checked
 limitCheck n uncertaintyOf = refuseAt 8 (first n (λ i. ltb 32767 (uncertaintyOf i))) Passed
 
--- the checks 5 to 9 in this order, for slices of these lengths
+-- Section 8.3: the checks 5 to 9 in this order, for slices of these lengths
 unfoldable pub loadChecks : List ℕ → ℕ → ℕ → Checked
 loadChecks file correctionsLength uncertaintiesLength =
     andThen (layoutChecks file)
     (andThen (limitCheck (entryCount file) (uncertainty file))
     (blockRoomCheck (entryCount file) correctionsLength uncertaintiesLength))
 
--- "A load writes .. the sizes to the unit"
+-- Section 8.4: the answer
 unfoldable pub loadAnswer : Unit → List ℕ → List ℤ → List ℕ → UnitAnswer
 loadAnswer u file corrections uncertainties =
     passedOr (loadChecks file (length corrections) (length uncertainties))
     (Changed (withBlock u (size1 file) (size2 file) (size3 file)))
     Refused
 
--- "A load writes both arrays to two lent slices ..; places past n are unchanged."
+-- Section 8.4: the two block slices afterwards, their first n places filled from the file
 unfoldable pub loadCorrections : List ℕ → List ℤ → List ℕ → List ℤ
 loadCorrections file corrections uncertainties =
     passedOr (loadChecks file (length corrections) (length uncertainties))

@@ -1,5 +1,5 @@
 // The loading of a field file into two lent slices and a unit. The whole file is checked before the
-// first write. Document 01, "Field file and block", has the layout and the checks.
+// first write. docs/SPECIFICATION.md, Section 8, has the layout and the checks.
 ghost use mathlib.Core.Path.{_≡_};
 ghost use Prim.Native.Nat.{_+_, _*_, _≤_, _<_};
 ghost use lib.ListN.{length};

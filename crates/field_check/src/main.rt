@@ -1,4 +1,4 @@
-// Loads files at the edges of document 01's limits. For each it prints the sizes in the file, its
+// Loads files at the edges of the limits. For each it prints the sizes in the file, its
 // length and the lengths of the lent slices, what the load answers, and a digest of each whole array
 // that the slices were lent from.
 ghost use Prim.Native.Nat.{_<_};

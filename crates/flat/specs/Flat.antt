@@ -1,5 +1,5 @@
--- The records and answers of the C interface: a flat record in the place of a unit, a flat struct in the
--- place of an answer.
+-- The records and answers of the C interface, a flat record in the place of a unit, a flat struct in the
+-- place of an answer: Section 12.
 use lib.Dec.{eqb}
 use lib.IntN.{pos}
 use Rattle.unit.specs.declared.Unit.{Unit}
@@ -9,7 +9,8 @@ use Rattle.flat.specs.declared.FlatUnit.{FlatUnit}
 use Rattle.flat.specs.declared.FlatPointAnswer.{FlatPointAnswer}
 use Rattle.flat.specs.declared.FlatUnitAnswer.{FlatUnitAnswer}
 
--- the unit that a record stands for: of a flag, 1 says present, and every other byte counts as absent
+-- Section 12.1: the unit that a record stands for; of a flag, 1 says present, and every other byte counts as
+-- absent
 abbrev pub unitOf : FlatUnit → Unit
 unitOf u = record {
   «has_net» = eqb (u .«has_net») 1;
@@ -23,11 +24,11 @@ unitOf u = record {
   n3 = u .n3;
 }
 
--- the record that holds neither net nor block
+-- Section 4.1: the empty unit as a record
 abbrev pub emptyFlat : FlatUnit
 emptyFlat = record { «has_net» = 0; v1 = 0; v2 = 0; v3 = 0; v4 = 0; «has_block» = 0; n1 = 0; n2 = 0; n3 = 0 }
 
--- the record `before` with the net of a unit; every byte of its block half is kept
+-- Section 12.1: the record `before` with the net of a unit; every byte of its block half is kept
 abbrev pub netHalf : FlatUnit → Unit → FlatUnit
 netHalf before after = record {
   «has_net» = 1;
@@ -41,7 +42,7 @@ netHalf before after = record {
   n3 = before .n3;
 }
 
--- the record `before` with the block of a unit; every byte of its net half is kept
+-- Section 12.1: the record `before` with the block of a unit; every byte of its net half is kept
 abbrev pub blockHalf : FlatUnit → Unit → FlatUnit
 blockHalf before after = record {
   «has_net» = before .«has_net»;
@@ -55,18 +56,18 @@ blockHalf before after = record {
   n3 = after .n3;
 }
 
--- the answer of a build or an inspection that was handed the record `before`: a refusal's number and place
--- and the record as it was, or 0, 0 and the record with the net
+-- Section 12.2: the answer of a build or an inspection that was handed the record `before`: a refusal's
+-- number and place and the record as it was, or 0, 0 and the record with the net
 abbrev pub flatNet : FlatUnit → UnitAnswer → FlatUnitAnswer
 flatNet before (UnitAnswer.Changed after) = record { number = 0; place = 0; unit = netHalf before after }
 flatNet before (UnitAnswer.Refused r) = record { number = r .number; place = r .place; unit = before }
 
--- the answer of a load, likewise
+-- Section 12.2: the answer of a load, likewise
 abbrev pub flatBlock : FlatUnit → UnitAnswer → FlatUnitAnswer
 flatBlock before (UnitAnswer.Changed after) = record { number = 0; place = 0; unit = blockHalf before after }
 flatBlock before (UnitAnswer.Refused r) = record { number = r .number; place = r .place; unit = before }
 
--- the answer of a point call
+-- Section 12.2: the answer of a point call
 abbrev pub flatPoint : PointAnswer → FlatPointAnswer
 flatPoint (PointAnswer.Value f) = record {
   number = 0;

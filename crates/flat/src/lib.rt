@@ -1,5 +1,5 @@
 // The records and answers of the C interface: flat structs in the place of a unit and of enums. Any bytes
-// may stand in a record.
+// may stand in a record. docs/SPECIFICATION.md, Section 12.
 ghost use mathlib.Core.Path.{_≡_};
 ghost use Rattle.flat.specs.Flat.{unitOf, flatNet, flatBlock, flatPoint};
 use point::PointAnswer;

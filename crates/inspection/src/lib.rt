@@ -1,4 +1,5 @@
 // Inspecting a net that arrived from elsewhere: it is compared with the defined one, built beside it.
+// docs/SPECIFICATION.md, Section 7.
 ghost use mathlib.Core.Path.{_≡_};
 ghost use Prim.Native.Nat.{_≤_};
 ghost use lib.ListN.{length};
@@ -129,8 +130,8 @@ fn check_net(c: Counts, net: &[u32], defined: &mut [u32], work: &mut [i32]) -> C
     compare(net, defined, s)
 }
 
-// Compares the net slice with the defined net of four multiplicities; where they agree, the unit has
-// that net. The two other slices are work slices: they keep their lengths, and nothing more.
+// Whether the net slice holds the defined net of four multiplicities: the unit with that net, or a refusal.
+// The two other slices are work slices: they keep their lengths, and nothing more.
 pub fn inspect(
     unit: Unit,
     v1: u8,

@@ -1,4 +1,4 @@
--- The second pass of a repeat: sums of a list's entries along each line of the direction, from the edge.
+-- The second pass of a repeat, sums of a list's entries along each line of the direction: Section 6.3.
 use mathlib.Core.Bool.{Bool, _&&_, cond}
 use mathlib.Core.List.{List}
 use Prim.Native.Nat.{min, suc, zero, ℕ}
@@ -11,8 +11,8 @@ use Rattle.spline.specs.Place.{Axis, Direction, Place, _⊖_, a1, a2, a3, along
 use Rattle.shape.specs.Shape.{heldIn, widths}
 use Rattle.shape.specs.declared.Shape.{Shape}
 
--- how many steps of d lead from a place of the box to its edge; a line of direction 4 enters through three
--- faces
+-- Section 6.3: how many steps of d lead from a place of the box to its edge, which for direction 4 is the
+-- nearest of three faces
 abbrev pub stepsToEdge : Direction → Place → ℕ
 stepsToEdge (along b) q = natAbs (q b)
 stepsToEdge diagonal q = min (natAbs (q a1)) (min (natAbs (q a2)) (natAbs (q a3)))
@@ -26,7 +26,7 @@ lineSum d F (suc n) q = lineSum d F n (q ⊖ d) +ℤ F q
 abbrev pub entryAt : (Axis → ℕ) → List ℤ → Place → ℤ
 entryAt W s q = getD s (index W (natAbs (q a1)) (natAbs (q a2)) (natAbs (q a3))) (pos 0)
 
--- the sum of a list's entries on the line of direction d, from the box's edge up to q
+-- Section 6.3: the sum of a list's entries on the line of direction d, from the box's edge up to q
 unfoldable pub edgeSum : Direction → (Axis → ℕ) → List ℤ → Place → ℤ
 edgeSum d W s q = lineSum d (entryAt W s) (stepsToEdge d q) q
 

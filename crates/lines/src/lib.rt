@@ -1,5 +1,5 @@
 // The second pass of a repeat: the differences are summed along each line of the direction, from the box's
-// edge, into the net slice.
+// edge, into the net slice. docs/SPECIFICATION.md, Section 6.3.
 ghost use mathlib.Core.Path.{_≡_};
 ghost use Prim.Native.Nat.{_+_, _*_, _≤_, _<_};
 ghost use lib.ListN.{length};

@@ -1,15 +1,15 @@
--- Text as bytes: numbers in base ten, items and the byte after each.
+-- Text as bytes, numbers in base ten, items and the byte after each: Section 13.2.
 use mathlib.Core.Bool.{cond}
 use mathlib.Core.List.{List, [], _++_, _∷_}
 use Prim.Native.Nat.{_%_, _+_, _/_, suc, zero, ℕ}
 use lib.Dec.{ltb}
 
--- a number in base ten, the highest digit first, by at most k divisions
+-- Section 13.2: a number in base ten, the highest digit first, by at most k divisions
 unfoldable pub decimalBy : ℕ → ℕ → List ℕ
 decimalBy zero n = []
 decimalBy (suc k) n = cond (ltb n 10) ((48 + n) ∷ []) (decimalBy k (n / 10) ++ ((48 + n % 10) ∷ []))
 
--- "Numbers are written in base ten." A number has no more digits than n + 1.
+-- Section 13.2: a number in base ten; it has no more digits than n + 1
 unfoldable pub decimal : ℕ → List ℕ
 decimal n = decimalBy (suc n) n
 
@@ -19,7 +19,7 @@ blank = 32
 abbrev pub newline : ℕ
 newline = 10
 
--- "Items are parted by one blank, each line ends in a newline": a number, and the byte after it
+-- Section 13.2: a number, and the blank or newline after it
 unfoldable pub item : ℕ → ℕ → List ℕ
 item n end = decimal n ++ (end ∷ [])
 

@@ -1,5 +1,5 @@
-// What program `shares` of document 01 prints, as text in a lent slice: the lines of the net that a typed
-// order builds, or the line of its refusal.
+// What program `shares` prints (docs/SPECIFICATION.md, Section 13), as text in a lent slice: the lines of the
+// net that a typed order builds, or the line of its refusal.
 ghost use mathlib.Core.Path.{_≡_};
 ghost use mathlib.Core.List.{[], _++_};
 ghost use Prim.Native.Nat.{_≤_, min};

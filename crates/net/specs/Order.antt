@@ -1,4 +1,4 @@
--- Orders as bytes: their checks, the net and the box that they lead to.
+-- Orders as bytes: their checks, the net and the box that they lead to. Sections 3.6, 6.1.
 use mathlib.Core.Bool.{Bool, _&&_, _||_, not}
 use mathlib.Core.List.{List}
 use Prim.Native.Nat.{ℕ}
@@ -13,30 +13,29 @@ use Rattle.unit.specs.Checks.{andThen, refuseAt, refuseIf}
 use Rattle.unit.specs.declared.Checked.{Checked}
 use Rattle.unit.specs.declared.Checked.the-variants.{Passed}
 
--- "a byte of the order is not 1 to 4"
+-- Section 5.3: the condition of 2, for one byte
 abbrev pub badByte : ℕ → Bool
 badByte b = not (leb 1 b && leb b 4)
 
--- "1 order longer than 8", "2 a byte of the order is not 1 to 4": the first such byte
+-- Section 6.1: 1, then 2 at the first bad byte
 unfoldable pub orderChecks : List ℕ → Checked
 orderChecks order =
     refuseIf 1 (ltb 8 (length order))
     (refuseAt 2 (first (length order) (λ i. badByte (getD order i 0))) Passed)
 
--- the widths of the box that an order leads to
+-- Section 2.4: the widths of the box that an order leads to
 abbrev pub orderWidth : List ℕ → Axis → ℕ
 orderWidth order = width (orderMultiplicities order)
 
--- and its number of places
+-- Section 2.4: and its number of places
 abbrev pub orderPlaces : List ℕ → ℕ
 orderPlaces order = places (orderWidth order)
 
--- the number at an index of what an order builds
+-- Section 3.6: the number at an index of what an order builds
 abbrev pub orderNumber : List ℕ → ℕ → ℕ
 orderNumber order i = orderNet order (placeOf (orderWidth order) i)
 
--- "4 the net slice or any lent work slice shorter than W1×W2×W3", for slices of these lengths;
--- "Checks: 1, 2, 4."
+-- Section 6.1: 1, 2, 4, for slices of these lengths
 unfoldable pub buildChecks : List ℕ → ℕ → ℕ → Checked
 buildChecks order netLength workLength =
     andThen (orderChecks order)

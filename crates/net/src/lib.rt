@@ -1,4 +1,5 @@
-// Building the net that an order gives in a lent slice, by differences and sums along lines.
+// Building the net of an order in a lent slice, by differences and sums along lines. docs/SPECIFICATION.md,
+// Section 6.
 ghost use mathlib.Core.Path.{_≡_};
 ghost use lib.ListN.{length};
 ghost use Rattle.net.specs.Build.{buildAnswer, buildNet, buildWork};

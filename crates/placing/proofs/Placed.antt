@@ -5,15 +5,16 @@ use Prim.Native.Nat.{_≤_, ℕ}
 use native.Mathlib.Nat.{pos-of-ne-zero}
 use native.Mathlib.Omega.{arith}
 use borrow.Author.Tests.{eqb-false, ltb-false, not-false}
+use Rattle.spline.specs.Box.{places, width}
 use Rattle.spline.specs.Multiplicities.{degree}
-use Rattle.unit.proofs.Checks.{if-passed, or-false}
+use Rattle.unit.proofs.Checks.{if-passed, or-false, room-passed, then-passed}
 use Rattle.unit.specs.Checks.{passedOr}
 use Rattle.unit.specs.Unit.{hasBlock, hasNet, netOf}
 use Rattle.unit.specs.declared.Checked.{Checked}
 use Rattle.unit.specs.declared.Checked.the-variants.{Passed, Stopped}
 use Rattle.unit.specs.declared.Refusal.{Refusal}
 use Rattle.unit.specs.declared.Unit.{Unit}
-use Rattle.placing.specs.Place.{limit, placeAnswer, pointChecks, scale, unitChecks}
+use Rattle.placing.specs.Place.{lentChecks, limit, placeAnswer, pointChecks, scale, unitChecks}
 use Rattle.placing.specs.Placing.{cells, inside, placing, sizes}
 use Rattle.placing.specs.declared.Placing.{Placing}
 use Rattle.placing.specs.declared.PlacingAnswer.the-variants as answers
@@ -29,6 +30,27 @@ equipped u h =
     let a = if-passed 21 _ _ h in
     let b = if-passed 22 _ _ (a .1) in
     record { net-held = not-false _ (a .0); block-held = not-false _ (b .0) }
+
+module _ (u : Unit) (netLength correctionsLength uncertaintiesLength : ℕ) where
+  pub record Lent : Type 0 where
+    pub unit : Equipped u
+    pub net-long : places (width (netOf u)) ≤ netLength
+    pub corrections-long : places (sizes u) ≤ correctionsLength
+    pub uncertainties-long : places (sizes u) ≤ uncertaintiesLength
+
+  -- what is lent has passed its checks: the unit has a net and a block, and every slice is long enough
+  pub lent : lentChecks u netLength correctionsLength uncertaintiesLength ≡ Passed → Lent
+  unfolding lentChecks
+  lent h =
+      let a = then-passed (unitChecks u) _ h in
+      let b = if-passed 4 _ _ (a .1) in
+      let c = room-passed (places (sizes u)) correctionsLength uncertaintiesLength (b .1) in
+      record {
+        unit = equipped u (a .0);
+        net-long = ltb-false _ _ (b .0);
+        corrections-long = c .0;
+        uncertainties-long = c .1;
+      }
 
 pub record PointAccepted (u : Unit) (x y z D : ℕ) : Type 0 where
   pub some : 1 ≤ D
@@ -60,7 +82,7 @@ refused-by Passed q h = let z : _≡_ {A = ℕ} 0 1 = cc in absurd (omega arith)
 refused-by (Stopped s) q h = cc
 
 -- a placing is answered where all checks passed
-placed-by : (k : Checked) (q : Placing) {t : Placing}
+pub placed-by : (k : Checked) (q : Placing) {t : Placing}
     → passedOr k (answers.Placed q) answers.Refused ≡ answers.Placed t → (k ≡ Passed) × (t ≡ q)
 placed-by Passed q h = (refl, cc)
 placed-by (Stopped s) q h = let z : _≡_ {A = ℕ} 0 1 = cc in absurd (omega arith)

@@ -38,7 +38,7 @@ rank-cases u P p123 p132 p312 p213 p231 p321 =
     go false true false ea eb ec = p231 (leb-true _ _ eb) (leb-false _ _ ec)
     go false false false ea eb ec = p321 (leb-false _ _ ea) (leb-false _ _ eb)
 
--- axis a stands before axis b: "largest first, ties by the lower axis number"
+-- axis a stands before axis b: its remainder is larger, or equal and a is the lower axis
 abbrev pub Before : (Axis → ℕ) → Axis → Axis → Type 0
 Before u a b = (u b < u a) ⊎ ((u a ≡ u b) × (axisNumber a < axisNumber b))
 

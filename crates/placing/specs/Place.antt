@@ -1,10 +1,12 @@
--- What a placing call answers, by cases in the order of its checks: 21, 22, 10, 11, 12.
+-- The checks of a unit, of what is lent and of a point, and what a placing call answers, by cases in the
+-- order of its checks (21, 22, 10, 11, 12): Section 9.5.
 use mathlib.Core.Bool.{_||_, not}
 use Prim.Native.Nat.{_*_, _^_, ℕ}
 use lib.Dec.{eqb, ltb}
 use Rattle.sums.specs.Coefficient.{factorial}
+use Rattle.spline.specs.Box.{places, width}
 use Rattle.spline.specs.Multiplicities.{degree}
-use Rattle.unit.specs.Checks.{andThen, passedOr, refuseIf}
+use Rattle.unit.specs.Checks.{andThen, blockRoomCheck, passedOr, refuseIf}
 use Rattle.unit.specs.Unit.{hasBlock, hasNet, netOf}
 use Rattle.unit.specs.declared.Checked.{Checked}
 use Rattle.unit.specs.declared.Checked.the-variants.{Passed}
@@ -13,25 +15,35 @@ use Rattle.placing.specs.Placing.{cells, inside, placing, sizes}
 use Rattle.placing.specs.declared.PlacingAnswer.{PlacingAnswer}
 use Rattle.placing.specs.declared.PlacingAnswer.the-variants.{Placed, Refused}
 
--- m!×D^m
+-- Section 5.3: m!×D^m, which 11 is about
 abbrev pub scale : ℕ → ℕ → ℕ
 scale m D = factorial m * D ^ m
 
--- "2^48 = 281474976710656"
+-- Section 5.3: its largest value, 2^48
 abbrev pub limit : ℕ
 limit = 281474976710656
 
--- 21 "no net", 22 "no block"
+-- Section 5.3: 21 where the unit has no net, 22 where it has no block
 unfoldable pub unitChecks : Unit → Checked
 unitChecks u = refuseIf 21 (not (hasNet u)) (refuseIf 22 (not (hasBlock u)) Passed)
 
--- 10 "D is 0 or above 4096", 11 "m!×D^m above 2^48 = 281474976710656", 12 "point not inside"
+-- Section 5.3: 21, 22, 4 for a net slice shorter than the net's box, 9 for a block slice shorter than the
+-- block
+unfoldable pub lentChecks : Unit → ℕ → ℕ → ℕ → Checked
+lentChecks u netLength correctionsLength uncertaintiesLength =
+    andThen (unitChecks u)
+    (refuseIf 4 (ltb netLength (places (width (netOf u))))
+    (blockRoomCheck (places (sizes u)) correctionsLength uncertaintiesLength))
+
+-- Section 5.3: 10 for a divisor out of bounds, 11 for one too large for the degree, 12 for a point that is
+-- not inside
 unfoldable pub pointChecks : Unit → ℕ → ℕ → ℕ → ℕ → Checked
 pointChecks u x y z D =
     refuseIf 10 (eqb D 0 || ltb 4096 D)
     (refuseIf 11 (ltb limit (scale (degree (netOf u)) D))
     (refuseIf 12 (not (inside (netOf u) (sizes u) (cells x y z D))) Passed))
 
+-- Section 9.5: the answer
 unfoldable pub placeAnswer : Unit → ℕ → ℕ → ℕ → ℕ → PlacingAnswer
 placeAnswer u x y z D =
     passedOr (andThen (unitChecks u) (pointChecks u x y z D)) (Placed (placing x y z D)) Refused

@@ -1,4 +1,4 @@
--- Where a point lies: its cell, the ranks of the axes and the four weights.
+-- Where a point lies: its cell, the ranks of the axes and the four weights. Section 9.
 use mathlib.Core.Bool.{Bool, _&&_, cond}
 use Prim.Native.Nat.{_%_, _-_, _/_, ℕ}
 use lib.Dec.{leb}
@@ -18,30 +18,30 @@ axisNumber a1 = 1
 axisNumber a2 = 2
 axisNumber a3 = 3
 
--- the sizes of a unit's block
+-- Section 4.3: the sizes of a unit's block
 abbrev pub sizes : Unit → Axis → ℕ
 sizes u = onAxes (u .n1) (u .n2) (u .n3)
 
--- "On axis b, k is the coordinate divided by D, rounded down"
+-- Section 9.1: the cell
 abbrev pub cells : ℕ → ℕ → ℕ → ℕ → Axis → ℕ
 cells x y z D = onAxes (x / D) (y / D) (z / D)
 
--- "and u the remainder"
+-- Section 9.1: the remainders
 abbrev pub remainders : ℕ → ℕ → ℕ → ℕ → Axis → ℕ
 remainders x y z D = onAxes (x % D) (y % D) (z % D)
 
--- "Eb−1 ≤ k ≤ nb−1"
+-- Section 9.2: inside on an axis
 abbrev pub insideOn : ℕ → ℕ → ℕ → Bool
 insideOn E n k = leb (E - 1) k && leb k (n - 1)
 
--- "The point is inside when on every axis Eb−1 ≤ k ≤ nb−1."
+-- Section 9.2: inside on all three
 unfoldable pub inside : Multiplicities → (Axis → ℕ) → (Axis → ℕ) → Bool
 inside v n k =
     insideOn (extent v a1) (n a1) (k a1)
     && insideOn (extent v a2) (n a2) (k a2)
     && insideOn (extent v a3) (n a3) (k a3)
 
--- the axes p, r, s
+-- Section 9.3: the axes p, r, s
 pub record AxisRanks : Type 0 where
   pub p : Axis
   pub r : Axis
@@ -56,11 +56,11 @@ withThird u a b =
     cond (leb (u a3) (u b)) (axisRanks a b a3)
     (cond (leb (u a3) (u a)) (axisRanks a a3 b) (axisRanks a3 a b))
 
--- "Order the axes by u, largest first, ties by the lower axis number; call them p, r, s."
+-- Section 9.3: the axis order of three remainders
 unfoldable pub rankAxes : (Axis → ℕ) → AxisRanks
 rankAxes u = cond (leb (u a2) (u a1)) (withThird u a1 a2) (withThird u a2 a1)
 
--- "The weights are L0 = D−u(p), L1 = u(p)−u(r), L2 = u(r)−u(s), L3 = u(s)."
+-- Section 9.4: the placing by cell, remainders and axis order, with its four weights
 abbrev pub placingBy : (Axis → ℕ) → (Axis → ℕ) → ℕ → AxisRanks → Placing
 placingBy k u D o = record {
   k1 = k a1;
@@ -75,7 +75,7 @@ placingBy k u D o = record {
   l3 = u (o .s);
 }
 
--- the placing of X, Y, Z over D
+-- Section 9.4: the placing of X, Y, Z over D
 unfoldable pub placing : ℕ → ℕ → ℕ → ℕ → Placing
 placing x y z D =
     placingBy (cells x y z D) (remainders x y z D) D (rankAxes (remainders x y z D))

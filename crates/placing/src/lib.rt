@@ -1,4 +1,5 @@
 // Where a point lies: its cell, the ranks of the axes and the four weights; or the refusal that it meets.
+// Section 9.
 ghost use mathlib.Core.Path.{_≡_};
 ghost use mathlib.Core.Bool.{true};
 ghost use Prim.Native.Nat.{_+_, _≤_};
@@ -6,7 +7,8 @@ ghost use lib.Dec.{leb};
 ghost use Rattle.unit.specs.Unit.{netOf, hasNet, hasBlock};
 ghost use Rattle.placing.specs.Placing.{inside, insideOn, onAxes, placing, sizes};
 ghost use Rattle.placing.specs.Inner.Ranking.{ranked};
-ghost use Rattle.placing.specs.Place.{scale, limit, unitChecks, pointChecks, placeAnswer};
+ghost use Rattle.placing.specs.Place.{scale, limit, lentChecks, unitChecks, pointChecks};
+ghost use Rattle.placing.specs.Place.{placeAnswer};
 use shape::Counts;
 use unit::Checked;
 use unit::Refusal;
@@ -185,6 +187,20 @@ pub fn check_unit(unit: Unit) -> Checked
         return Checked::stop(22, 0);
     }
     Checked::Passed
+}
+
+// Checks 21, 22, 4 and 9, by the lengths of the lent slices.
+pub fn check_lent(unit: Unit, net: usize, corrections: usize, uncertainties: usize) -> Checked
+    ensures { λ r. ⌜ r ≡ lentChecks unit net corrections uncertainties ⌝ }
+{
+    if let Checked::Stopped(refusal) = check_unit(unit) {
+        return Checked::Stopped(refusal);
+    }
+    if net < shape::places_of(Counts::of_unit(unit)) {
+        return Checked::stop(4, 0);
+    }
+    let n = shape::entries_of(unit.n1, unit.n2, unit.n3);
+    unit::check_block_room(n, corrections, uncertainties)
 }
 
 // Checks 10, 11 and 12.

@@ -1,12 +1,3 @@
-pub mod Machine
-pub mod Sweep
-pub mod Gaps
-pub mod Portions
-pub mod Lines
 pub mod Weights
-pub mod LocalPlaces
-pub mod Windows
-pub mod Values
-pub mod FirstGap
-pub mod Searches
+pub mod Parts
 pub mod Answers

@@ -1,3 +1,2 @@
-pub mod Window
-pub mod Portion
-pub mod Valuing
+pub mod Weights
+pub mod Parts

@@ -1,3 +1,3 @@
-pub mod Blending
+pub mod Bernstein
 pub mod Answer
 pub mod Inner

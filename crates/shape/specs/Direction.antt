@@ -1,4 +1,4 @@
--- The vectors of directions.
+-- The vectors of directions: Section 2.1.
 use mathlib.Core.Bool.{cond}
 use Prim.Native.Nat.{ℕ}
 use Rattle.spline.specs.Place.{Axis, Direction, a1, a2, a3, moves}

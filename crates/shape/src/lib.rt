@@ -1,5 +1,5 @@
 // What multiplicities fix: the degree of a net and the box that it fills, for any four of them. What sizes
-// fix: the number of a block's entries. What directions are: their vectors.
+// fix: the number of a block's entries. What directions are: their vectors. docs/SPECIFICATION.md, Section 2.
 ghost use mathlib.Core.Path.{_≡_};
 ghost use Prim.Native.Nat.{_+_, _*_, _≤_};
 ghost use Rattle.spline.specs.Multiplicities.{degree};

@@ -1,4 +1,4 @@
-// Program `shares`: lists the net that the order on standard input builds.
+// Program `shares`: lists the net that the order on standard input builds. docs/SPECIFICATION.md, Section 13.
 use libc::STDIN_FILENO;
 use libc::STDOUT_FILENO;
 use listing::Typed;

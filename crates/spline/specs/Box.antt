@@ -1,4 +1,4 @@
--- The box of a net, the list of its numbers, and a list read as a net.
+-- The box of a net, the list of its numbers, and a list read as a net: Section 2.4.
 use mathlib.Core.Bool.{cond}
 use mathlib.Core.List.{List}
 use Prim.Native.Nat.{ℕ, _+_, _*_, _/_, _%_}
@@ -9,32 +9,32 @@ use Rattle.sums.specs.Fill.{tabulate}
 use Rattle.spline.specs.Place.{Axis, a1, a2, a3, Place, place, Net}
 use Rattle.spline.specs.Multiplicities.{Multiplicities, degree, extent}
 
--- "The net's box has Wb = m×Eb+1 places on axis b, counted from 0."
+-- Section 2.4: the width Wb of the box on an axis
 abbrev pub width : Multiplicities → Axis → ℕ
 width v b = degree v * extent v b + 1
 
--- W1 × W2 × W3
+-- Section 2.4: the number of its places, W1 × W2 × W3
 abbrev pub places : (Axis → ℕ) → ℕ
 places W = W a1 * W a2 * W a3
 
--- "Place (x, y, z) has index x + W1×(y + W2×z)."
+-- Section 2.4: the index of (x, y, z)
 abbrev pub index : (Axis → ℕ) → ℕ → ℕ → ℕ → ℕ
 index W x y z = x + W a1 * (y + W a2 * z)
 
--- the place that has the index i
+-- Section 2.4: the place that has the index i
 abbrev pub placeOf : (Axis → ℕ) → ℕ → Place
 placeOf W i = place (pos (i % W a1)) (pos (i / W a1 % W a2)) (pos (i / W a1 / W a2))
 
--- the numbers of a net over its box, in index order
+-- Section 6.2: the numbers of a net over its box, in index order
 unfoldable pub netList : (Axis → ℕ) → Net → List ℕ
 netList W C = tabulate (λ i. C (placeOf W i)) (places W)
 
--- f where the coordinate is one of the box, else 0
+-- Section 2.4: f where the coordinate is one of the box, else 0
 abbrev pub inBox : ℕ → ℤ → (ℕ → ℕ) → ℕ
 inBox w (pos n) f = cond (ltb n w) (f n) 0
 inBox w (negsuc n) f = 0
 
--- a list read as a net: "C is these numbers, and 0 outside the box"
+-- Section 14.4: a list read as a net, with zeros outside the box
 unfoldable pub spread : (Axis → ℕ) → List ℕ → Net
 spread W s q =
     inBox (W a1) (q a1) (λ x.

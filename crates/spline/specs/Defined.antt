@@ -1,4 +1,4 @@
--- The defined net of four multiplicities.
+-- The defined net of four multiplicities: Section 3.7.
 use mathlib.Core.List.{List, [], _∷_}
 use Prim.Native.Nat.{ℕ, zero, suc, _-_}
 use Rattle.spline.specs.Place.{a1, a2, a3, Direction, along, diagonal, Net}
@@ -10,7 +10,7 @@ abbrev pub repeats : ℕ → Direction → List Direction → List Direction
 repeats zero d ds = ds
 repeats (suc n) d ds = d ∷ repeats n d ds
 
--- "takes v1−1 repeats of direction 1, then v3−1 of direction 3, v2−1 of direction 2, v4−1 of direction 4"
+-- Section 3.7: the order that defines a net, directions 1, 3, 2, 4 with their repeats
 unfoldable pub definedOrder : Multiplicities → List Direction
 definedOrder v =
     repeats (v .v1 - 1) (along a1)
@@ -18,6 +18,6 @@ definedOrder v =
     (repeats (v .v2 - 1) (along a2)
     (repeats (v .v4 - 1) diagonal [])))
 
--- "The defined net of four multiplicities starts from the simple net and takes .. by the rule."
+-- Section 3.7: the defined net, which this order builds
 unfoldable pub defined : Multiplicities → Net
 defined v = built (definedOrder v) 1 simple

@@ -6,5 +6,6 @@ pub mod SumZ
 pub mod MachineSizes
 pub mod Coefficient
 pub mod Multinomial
+pub mod Simplex
 pub mod Places
 pub mod Words

@@ -1,13 +1,14 @@
 -- Laws of finite sums over ℕ.
 use mathlib.Core.Path.{_≡_, refl, sym, ap, ap₂, _∙_}
 use mathlib.Core.Logic.{⊎-elim}
-use Prim.Native.Nat.{ℕ, zero, suc, _+_, _*_, _≤_, _<_}
+use Prim.Native.Nat.{ℕ, zero, suc, _+_, _*_, _-_, _≤_, _<_}
 use native.Mathlib.Nat.{le-refl, le-suc-iff, add-zero, add-suc}
 use native.Mathlib.Numerals.{add-one}
 use native.Mathlib.Omega.{arith}
 use Rattle.sums.specs.Sum.{sumTo, sumBox}
 
 -- ---- sums up to n
+
 -- no terms
 pub sum-zero : (f : ℕ → ℕ) → sumTo 0 f ≡ 0
 unfolding sumTo
@@ -63,6 +64,15 @@ unfolding sumTo
 sum-split a zero f = rw (add-zero a) (omega arith)
 sum-split a (suc b) f = rw (add-suc a b) (let ih = sum-split a b f in omega arith)
 
+-- the last term first
+pub sum-mirror : (n : ℕ) (f : ℕ → ℕ) → sumTo n (λ k. f (n - 1 - k)) ≡ sumTo n f
+unfolding sumTo
+sum-mirror zero f = refl
+sum-mirror (suc n) f =
+    let e : suc n - 1 - 0 ≡ n = omega arith in
+    let rest = sum-cong n (λ k. f (suc n - 1 - suc k)) (λ k. f (n - 1 - k)) (λ k l. ap f (omega arith)) in
+    sum-first n (λ k. f (suc n - 1 - k)) ∙ rw (e, rest, sum-mirror n f) (omega arith)
+
 -- rows first or columns first
 pub sum-swap : (n m : ℕ) (f : ℕ → ℕ → ℕ)
     → sumTo n (λ i. sumTo m (λ j. f i j)) ≡ sumTo m (λ j. sumTo n (λ i. f i j))
@@ -110,14 +120,15 @@ module _ (n1 n2 n3 : ℕ) where
       sum-cong n2 _ _ (λ i2 l2.
       sum-cong n1 _ _ (λ i1 l1. h i1 i2 i3 l1 l2 l3)))
 
-  -- no larger term by term, no larger in all
-  pub sumBox-le : (f g : ℕ → ℕ → ℕ → ℕ) → Inside (λ i1 i2 i3. f i1 i2 i3 ≤ g i1 i2 i3)
-      → sumBox n1 n2 n3 f ≤ sumBox n1 n2 n3 g
+  -- the last entry of each axis first
+  pub sumBox-mirror : (f : ℕ → ℕ → ℕ → ℕ)
+      → sumBox n1 n2 n3 (λ i1 i2 i3. f (n1 - 1 - i1) (n2 - 1 - i2) (n3 - 1 - i3)) ≡ sumBox n1 n2 n3 f
   unfolding sumBox
-  sumBox-le f g h =
-      sum-le n3 _ _ (λ i3 l3.
-      sum-le n2 _ _ (λ i2 l2.
-      sum-le n1 _ _ (λ i1 l1. h i1 i2 i3 l1 l2 l3)))
+  sumBox-mirror f =
+      sum-cong n3 _ _ (λ i3 l3.
+      sum-cong n2 _ _ (λ i2 l2. sum-mirror n1 (λ i1. f i1 (n2 - 1 - i2) (n3 - 1 - i3)))
+      ∙ sum-mirror n2 (λ i2. sumTo n1 (λ i1. f i1 i2 (n3 - 1 - i3))))
+      ∙ sum-mirror n3 (λ i3. sumTo n2 (λ i2. sumTo n1 (λ i1. f i1 i2 i3)))
 
   -- a sum of sums
   pub sumBox-add : (f g : ℕ → ℕ → ℕ → ℕ)
@@ -129,16 +140,6 @@ module _ (n1 n2 n3 : ℕ) where
       ∙ sum-add n2 (λ i2. sumTo n1 (λ i1. f i1 i2 i3)) (λ i2. sumTo n1 (λ i1. g i1 i2 i3)))
       ∙ sum-add n3 (λ i3. sumTo n2 (λ i2. sumTo n1 (λ i1. f i1 i2 i3)))
       (λ i3. sumTo n2 (λ i2. sumTo n1 (λ i1. g i1 i2 i3)))
-
-  -- a common factor
-  pub sumBox-mul : (c : ℕ) (f : ℕ → ℕ → ℕ → ℕ)
-      → sumBox n1 n2 n3 (λ i1 i2 i3. c * f i1 i2 i3) ≡ c * sumBox n1 n2 n3 f
-  unfolding sumBox
-  sumBox-mul c f =
-      sum-cong n3 _ _ (λ i3 l3.
-      sum-cong n2 _ _ (λ i2 l2. sum-mul n1 c (λ i1. f i1 i2 i3))
-      ∙ sum-mul n2 c (λ i2. sumTo n1 (λ i1. f i1 i2 i3)))
-      ∙ sum-mul n3 c (λ i3. sumTo n2 (λ i2. sumTo n1 (λ i1. f i1 i2 i3)))
 
   -- terms that are one number
   pub sumBox-const : (c : ℕ) → sumBox n1 n2 n3 (λ i1 i2 i3. c) ≡ n1 * n2 * n3 * c

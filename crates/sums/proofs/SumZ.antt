@@ -1,25 +1,28 @@
 -- Laws of finite sums over ℤ, and their sizes.
 use mathlib.Core.Path.{_≡_, refl, sym, ap, ap₂, _∙_}
-use Prim.Native.Nat.{ℕ, zero, suc, _+_, _*_, _≤_, _<_}
-use native.Mathlib.Nat.{le-refl, mul-le-mul-left, add-zero, add-suc}
+use Prim.Native.Nat.{ℕ, zero, suc, _+_, _*_, _-_, _≤_, _<_}
+use native.Mathlib.Nat.{le-refl, add-zero, add-suc}
 use native.Mathlib.Numerals.{add-one}
 use native.Mathlib.Omega.{arith}
-use lib.IntN.{ℤ, pos, _+ℤ_, _*ℤ_, natAbs, +ℤ-idr, +ℤ-idl, +ℤ-assoc, *ℤ-zero, *ℤ-comm, zero-*ℤ, sucℤ-*ℤ}
+use lib.IntN.{ℤ, pos, _+ℤ_, _*ℤ_, natAbs}
+use lib.IntN.{+ℤ-idr, +ℤ-idl, +ℤ-assoc, +ℤ-comm, *ℤ-zero, *ℤ-comm, zero-*ℤ, sucℤ-*ℤ}
 use Rattle.sums.specs.Sum.{sumTo, sumZ, sumBox, sumBoxZ}
-use Rattle.sums.proofs.Sum.{Inside, sum-mul, sumBox-mul}
-use Rattle.sums.proofs.Signed.{Is, is-pos, is-add, +ℤ-swap, *ℤ-+ℤ, +ℤ-*ℤ, abs-add, abs-mul}
+use Rattle.sums.proofs.Sum.{Inside, sum-mul}
+use Rattle.sums.proofs.Signed.{Is, is-pos, is-add, +ℤ-swap, *ℤ-+ℤ, +ℤ-*ℤ, abs-add}
 
 -- ---- sums up to n
--- no terms, and one term more
+
+-- no terms
 pub sumZ-zero : (f : ℕ → ℤ) → sumZ 0 f ≡ pos 0
 unfolding sumZ
 sumZ-zero f = refl
 
+-- one term more
 pub sumZ-suc : (n : ℕ) (f : ℕ → ℤ) → sumZ (suc n) f ≡ sumZ n f +ℤ f n
 unfolding sumZ
 sumZ-suc n f = refl
 
--- one term more, as a loop counts
+-- the same, as a loop counts
 pub sumZ-next : (n : ℕ) (f : ℕ → ℤ) → sumZ (n + 1) f ≡ sumZ n f +ℤ f n
 sumZ-next n f = rw (add-one n) (sumZ-suc n f)
 
@@ -36,12 +39,13 @@ unfolding sumZ
 sumZ-add zero f g = refl
 sumZ-add (suc n) f g = rw (sumZ-add n f g) (+ℤ-swap (sumZ n f) (sumZ n g) (f n) (g n))
 
--- a common factor, on either side
+-- a common factor on the left
 pub sumZ-mul : (n : ℕ) (c : ℤ) (f : ℕ → ℤ) → sumZ n (λ k. c *ℤ f k) ≡ c *ℤ sumZ n f
 unfolding sumZ
 sumZ-mul zero c f = sym (*ℤ-zero c)
 sumZ-mul (suc n) c f = rw (sumZ-mul n c f) (sym (*ℤ-+ℤ c (sumZ n f) (f n)))
 
+-- a common factor on the right
 pub sumZ-mulr : (n : ℕ) (c : ℤ) (f : ℕ → ℤ) → sumZ n (λ k. f k *ℤ c) ≡ sumZ n f *ℤ c
 unfolding sumZ
 sumZ-mulr zero c f = sym (zero-*ℤ c)
@@ -53,6 +57,7 @@ unfolding sumZ
 sumZ-const zero c = sym (zero-*ℤ c)
 sumZ-const (suc n) c = rw (sumZ-const n c) (sym (sucℤ-*ℤ (pos n) c))
 
+-- terms that are 0
 pub sumZ-nil : (n : ℕ) → sumZ n (λ k. pos 0) ≡ pos 0
 sumZ-nil n = sumZ-const n (pos 0) ∙ *ℤ-zero (pos n)
 
@@ -69,6 +74,15 @@ sumZ-split a zero f = rw (add-zero a) (sym (+ℤ-idr (sumZ a f)))
 sumZ-split a (suc b) f =
     rw (add-suc a b, sumZ-split a b f)
     (+ℤ-assoc (sumZ a f) (sumZ b (λ k. f (a + k))) (f (a + b)))
+
+-- the last term first
+pub sumZ-mirror : (n : ℕ) (f : ℕ → ℤ) → sumZ n (λ k. f (n - 1 - k)) ≡ sumZ n f
+unfolding sumZ
+sumZ-mirror zero f = refl
+sumZ-mirror (suc n) f =
+    let e : suc n - 1 - 0 ≡ n = omega arith in
+    let rest = sumZ-cong n (λ k. f (suc n - 1 - suc k)) (λ k. f (n - 1 - k)) (λ k l. ap f (omega arith)) in
+    sumZ-first n (λ k. f (suc n - 1 - k)) ∙ rw (e, rest, sumZ-mirror n f) (+ℤ-comm (f n) (sumZ n f))
 
 -- rows first or columns first
 pub sumZ-swap : (n m : ℕ) (f : ℕ → ℕ → ℤ)
@@ -120,6 +134,16 @@ module _ (n1 n2 n3 : ℕ) where
       sumZ-cong n2 _ _ (λ i2 l2.
       sumZ-cong n1 _ _ (λ i1 l1. h i1 i2 i3 l1 l2 l3)))
 
+  -- the last entry of each axis first
+  pub sumBoxZ-mirror : (f : ℕ → ℕ → ℕ → ℤ)
+      → sumBoxZ n1 n2 n3 (λ i1 i2 i3. f (n1 - 1 - i1) (n2 - 1 - i2) (n3 - 1 - i3)) ≡ sumBoxZ n1 n2 n3 f
+  unfolding sumBoxZ
+  sumBoxZ-mirror f =
+      sumZ-cong n3 _ _ (λ i3 l3.
+      sumZ-cong n2 _ _ (λ i2 l2. sumZ-mirror n1 (λ i1. f i1 (n2 - 1 - i2) (n3 - 1 - i3)))
+      ∙ sumZ-mirror n2 (λ i2. sumZ n1 (λ i1. f i1 i2 (n3 - 1 - i3))))
+      ∙ sumZ-mirror n3 (λ i3. sumZ n2 (λ i2. sumZ n1 (λ i1. f i1 i2 i3)))
+
   -- a common factor on the left
   pub sumBoxZ-mul : (c : ℤ) (f : ℕ → ℕ → ℕ → ℤ)
       → sumBoxZ n1 n2 n3 (λ i1 i2 i3. c *ℤ f i1 i2 i3) ≡ c *ℤ sumBoxZ n1 n2 n3 f
@@ -147,26 +171,3 @@ module _ (n1 n2 n3 : ℕ) where
       sumZ-cong n2 _ _ (λ i2 l2. sumZ-pos n1 (λ i1. f i1 i2 i3))
       ∙ sumZ-pos n2 (λ i2. sumTo n1 (λ i1. f i1 i2 i3)))
       ∙ sumZ-pos n3 (λ i3. sumTo n2 (λ i2. sumTo n1 (λ i1. f i1 i2 i3)))
-
-  -- where each term's size is at most g's, the sum's is at most the sum of g
-  pub sumBoxZ-abs : (f : ℕ → ℕ → ℕ → ℤ) (g : ℕ → ℕ → ℕ → ℕ)
-      → Inside n1 n2 n3 (λ i1 i2 i3. natAbs (f i1 i2 i3) ≤ g i1 i2 i3)
-      → natAbs (sumBoxZ n1 n2 n3 f) ≤ sumBox n1 n2 n3 g
-  unfolding sumBoxZ sumBox
-  sumBoxZ-abs f g h =
-      sumZ-abs n3 _ _ (λ i3 l3.
-      sumZ-abs n2 _ _ (λ i2 l2.
-      sumZ-abs n1 _ _ (λ i1 l1. h i1 i2 i3 l1 l2 l3)))
-
-  -- numbers of size at most K, each with its share, add up to at most K times the shares' sum
-  pub blend-abs : (K : ℕ) (share : ℕ → ℕ → ℕ → ℕ) (corr : ℕ → ℕ → ℕ → ℤ)
-      → Inside n1 n2 n3 (λ i1 i2 i3. natAbs (corr i1 i2 i3) ≤ K)
-      → natAbs (sumBoxZ n1 n2 n3 (λ i1 i2 i3. pos (share i1 i2 i3) *ℤ corr i1 i2 i3))
-      ≤ K * sumBox n1 n2 n3 share
-  blend-abs K share corr h =
-      rw (← sumBox-mul n1 n2 n3 K share)
-      (sumBoxZ-abs _ (λ i1 i2 i3. K * share i1 i2 i3)
-      (λ i1 i2 i3 l1 l2 l3.
-      let e = abs-mul (pos (share i1 i2 i3)) (corr i1 i2 i3) in
-      let m = mul-le-mul-left (share i1 i2 i3) (h i1 i2 i3 l1 l2 l3) in
-      omega arith))

@@ -1,4 +1,4 @@
--- Factorials, binomial and multinomial coefficients.
+-- Factorials, binomial and multinomial coefficients: Section 1.4.
 use Prim.Native.Nat.{ℕ, zero, suc, _*_, _-_, _/_}
 
 -- n!

@@ -1,4 +1,4 @@
--- Tests of every number below n, and the lowest number that passes one.
+-- Tests of every number below n, and the lowest number that passes one: Section 1.3.
 use mathlib.Core.Bool.{Bool, true, cond, _&&_}
 use Prim.Native.Nat.{ℕ, zero, suc}
 

@@ -1,11 +1,11 @@
--- The unit record of document 01, section "Building".
+-- The unit record: Section 4.
 use mathlib.Core.Bool.{Bool, _&&_, false, true}
 use Prim.Native.Nat.{_*_, ℕ}
 use lib.Dec.{leb}
 use Rattle.spline.specs.Multiplicities.{Multiplicities, allowed, multiplicities}
 use Rattle.unit.specs.declared.Unit.{Unit}
 
--- "A fresh unit holds neither net nor block."
+-- Section 4.1: the empty unit, all zeros
 abbrev pub emptyUnit : Unit
 emptyUnit = record {
   «has_net» = false;
@@ -19,27 +19,27 @@ emptyUnit = record {
   n3 = 0;
 }
 
--- the four multiplicities of its net
+-- Section 4.1: the four multiplicities in a unit
 abbrev pub netOf : Unit → Multiplicities
 netOf u = multiplicities (u .v1) (u .v2) (u .v3) (u .v4)
 
--- "A unit whose net values break the limits above counts as having no net"
+-- Section 4.2: the unit has a net
 unfoldable pub hasNet : Unit → Bool
 hasNet u = u .«has_net» && allowed (netOf u)
 
--- a size on one axis is "1 to 64"
+-- Section 4.3: an allowed size on one axis
 unfoldable pub sizeAllowed : ℕ → Bool
 sizeAllowed n = leb 1 n && leb n 64
 
--- "n1, n2, n3, unsigned 16-bit, each 1 to 64, product n at most 4096"
+-- Section 4.3: allowed sizes, with 4096 entries at most
 unfoldable pub sizesAllowed : ℕ → ℕ → ℕ → Bool
 sizesAllowed n1 n2 n3 = sizeAllowed n1 && sizeAllowed n2 && sizeAllowed n3 && leb (n1 * n2 * n3) 4096
 
--- "one whose sizes break those below, as having no block"
+-- Section 4.3: the unit has a block
 unfoldable pub hasBlock : Unit → Bool
 hasBlock u = u .«has_block» && sizesAllowed (u .n1) (u .n2) (u .n3)
 
--- "the unit has that net": the unit with its net half set
+-- Section 4.4: the unit with its net half set
 abbrev pub withNet : Unit → Multiplicities → Unit
 withNet u v = record {
   «has_net» = true;
@@ -53,7 +53,7 @@ withNet u v = record {
   n3 = u .n3;
 }
 
--- the unit with its block half set
+-- Section 4.4: the unit with its block half set
 abbrev pub withBlock : Unit → ℕ → ℕ → ℕ → Unit
 withBlock u n1 n2 n3 = record {
   «has_net» = u .«has_net»;

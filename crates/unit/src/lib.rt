@@ -1,5 +1,5 @@
 // The unit record: which net and which block a correction unit holds, the limits on both, and the
-// answers that carry a unit or a refusal. Any values may stand in it.
+// answers that carry a unit or a refusal. Any values may stand in it. docs/SPECIFICATION.md, Sections 4, 5.
 ghost use mathlib.Core.Path.{_≡_};
 ghost use Rattle.unit.specs.Unit.{emptyUnit, hasBlock, hasNet, withBlock, withNet};
 ghost use Rattle.unit.specs.Unit.{sizeAllowed, sizesAllowed};
@@ -19,7 +19,7 @@ pub struct Unit {
     pub n3: u16,
 }
 
-// A refusal of document 01: its number, and the place that it speaks of, 0 where it speaks of none.
+// A refusal: its number, and the place that it speaks of, 0 where it speaks of none.
 #[repr(C)]
 pub struct Refusal {
     pub number: u32,

@@ -1,4 +1,4 @@
-//! Points over defined nets of every degree: document 01's figures, any points, and the largest numbers.
+//! Points over defined nets of every degree: the figures worked by hand, any points, and the largest numbers.
 
 use super::scene::Scene;
 use super::{Shelf, shape};
@@ -38,7 +38,7 @@ pub fn text(shelf: &Shelf) -> String {
     scenes.iter().map(|scene| scene.text(shelf)).collect()
 }
 
-/// Document 01's hand-computed points.
+/// The points worked by hand: docs/SPECIFICATION.md, 14.6.
 fn figures() -> Vec<Scene> {
     let mut block = Block::constant(Sizes::new([2, 2, 2]).expect("within the limits"), 0, 5);
     (block.corrections[0], block.corrections[1]) = (100, -40);

@@ -1,4 +1,4 @@
--- The order that defines a net as a list of bytes, and two lists compared.
+-- Section 3.7: the order that defines a net as a list of bytes, and two lists compared.
 use mathlib.Core.Bool.{Bool, cond}
 use mathlib.Core.List.{List}
 use Prim.Native.Nat.{_+_, _-_, ℕ}

@@ -1,4 +1,4 @@
--- An order to which neither 1 nor 2 applies.
+-- Section 6.1: an order to which neither 1 nor 2 applies.
 use mathlib.Core.List.{List}
 use mathlib.Core.Path.{_≡_}
 use Prim.Native.Nat.{_≤_, ℕ}

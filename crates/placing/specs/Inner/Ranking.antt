@@ -1,4 +1,4 @@
--- Ranks of the axes and weights, as inner functions of this crate and of `point` promise or ask for them.
+-- Ranks of the axes and weights, as inner functions of this crate, of `blending` and of `point` have them.
 use Prim.Native.Nat.{_+_, ℕ}
 use Rattle.spline.specs.Place.{Axis}
 use Rattle.placing.specs.Placing.{AxisRanks, axisNumber, onAxes, rankAxes}

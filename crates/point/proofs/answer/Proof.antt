@@ -1,135 +1,180 @@
--- The checks come in the definition's order, and a point that is placed has all that a valuing asks for.
-use mathlib.Core.Path.{_∙_, _≡_, ap, sym}
-use Prim.Native.Nat.{ℕ}
+-- The arrays that the blending has written hold the blended numbers, whose Bernstein sums are N and U.
+use mathlib.Core.List.{List}
+use mathlib.Core.Path.{_∙_, _≡_, ap, ap₂, subst, sym}
+use Prim.Native.Nat.{_<_, ℕ}
 use borrow.Author.Needs.{needs}
-use lib.ListN.{length}
+use lib.IntN.{ℤ}
 use denote.Ref.{now}
-use Rattle.unit.proofs.Checks.{then-passed}
+use mir.Facts.{toZ-ofZ}
+use mir.Syntax.{w64}
+use mir.Val.{SFits}
+use Rattle.spline.specs.Multiplicities.{degree}
 use Rattle.unit.specs.Unit.{netOf}
 use Rattle.unit.specs.declared.Checked.the-variants.{Passed}
 use Rattle.placing.proofs.Ranks.{weights-add-up}
-use Rattle.placing.proofs.Placed.{place-placed, place-refused, point-accepted}
-use Rattle.placing.specs.Place.{placeAnswer, pointChecks, unitChecks}
 use Rattle.placing.specs.Inner.Ranking.{weightSum}
+use Rattle.placing.specs.Place.{scale}
 use Rattle.placing.specs.Placing.{placing, sizes}
 use Rattle.placing.specs.declared.Placing.{Placing}
-use Rattle.point.proofs.Answers.{Lent, fit, lent}
+use Rattle.blending.specs.Blend.{Sized, blendChecks, blendedCorrectionAt, blendedUncertaintyAt, correctionAt}
+use Rattle.blending.specs.Blend.{numberAt, signedAt, uncertaintyAt}
+use Rattle.blending.specs.LocalPlaces.{localPlaces}
+use Rattle.point.proofs.Answers.{answer-made, answer-refused, blend-placed, degree-few}
+use Rattle.point.proofs.Answers.{divisor-some, scaled-of, shift-at, spread-at}
+use Rattle.point.proofs.Parts.{parts-are}
 use Rattle.point.proofs.answer.Statement.{statement}
-use Rattle.point.specs.Answer.{correctionAt, lentChecks, numberAt, pointAnswer, uncertaintyAt}
-use Rattle.point.specs.Answer.{valueAnswer}
-use Rattle.point.specs.declared.PointAnswer.{PointAnswer}
+use Rattle.point.specs.Bernstein.{shiftNumerator, uncertaintyNumerator}
+use Rattle.point.specs.Inner.Parts.{BlendedSizes, part, partsTo}
+use Rattle.point.specs.Inner.Weights.{Scaled}
 use Rattle.point.proofs.answer.Tie as tie
 
--- what is lent has passed its checks
-module _ (c : tie.After-enum-told) where
+-- once the point is blended and the degree is known
+module _ (c : tie.After-degree-of) where
+  -- where the call of blend has returned
+  abbrev made : tie.After-blend
+  made = c .before .before .before .before .before
+
   abbrev start : tie.Start
-  start = c .before .before .before .before .before
+  start = made .before .before .before .before .before
 
-  passed : (let a = start .args in
-      lentChecks (a .unit) (length (now (a .net))) (length (now (a .corrections)))
-      (length (now (a .uncertainties)))
-      ≡ Passed)
-  passed = sym (c .before .before .check-lent .ensures) ∙ c .enum-told .given .1
+  abbrev m : ℕ
+  m = degree (netOf (start .args .unit))
 
-  held : (let a = start .args in
-      Lent (a .unit) (length (now (a .net))) (length (now (a .corrections)))
-      (length (now (a .uncertainties))))
-  held = lent _ _ _ _ passed
+  abbrev q : Placing
+  q = c .before .before .before .blended .given .0 .0
 
-  unit-passed : unitChecks (start .args .unit) ≡ Passed
-  unfolding lentChecks
-  unit-passed = then-passed (unitChecks (start .args .unit)) _ passed .0
+  abbrev shifts : List ℤ
+  shifts = made .blend .last .1 .1 .1 .1 .1 .1 .1 .1 .0
 
--- the placing call's answer
-place-is : (c : tie.After-place) → (let a = start (c .before) .args in
-    c .place .result ≡ placeAnswer (a .unit) (a .x) (a .y) (a .z) (a .divisor))
-place-is c = c .place .ensures
+  abbrev spreads : List ℕ
+  spreads = made .blend .last .1 .1 .1 .1 .1 .1 .1 .1 .1 .0
 
-point-placed : (c : tie.After-known-told2) → (let a = start (c .before .before .before .before) .args in
-    (pointChecks (a .unit) (a .x) (a .y) (a .z) (a .divisor) ≡ Passed)
-    × (c .before .q .given .0 .0 ≡ placing (a .x) (a .y) (a .z) (a .divisor)))
-point-placed c =
-    let t = c .before .before .before .before in
-    let a = start t .args in
-    place-placed (a .unit) (a .x) (a .y) (a .z) (a .divisor) (unit-passed t)
-    (sym (place-is (c .before .before .before)) ∙ c .before .q .given .1)
+  degree-is : c .degree-of .result ≡ m
+  degree-is = c .degree-of .ensures .0 ∙ ap degree (c .before .of-unit .ensures)
 
--- the value of the placing
-module _ (a : tie.Start) where
-  abbrev value-at : Placing → ℕ → PointAnswer
-  value-at =
-      let n = sizes (a .args .unit) in
-      valueAnswer (netOf (a .args .unit)) n (numberAt (now (a .args .net)))
-      (correctionAt n (now (a .args .corrections))) (uncertaintyAt n (now (a .args .uncertainties)))
+  -- all checks have passed, and the placing is the point's
+  placed : (let a = start .args in
+      (blendChecks (a .unit) (now (a .net)) (now (a .corrections)) (now (a .uncertainties)) (a .x) (a .y)
+      (a .z) (a .divisor) ≡ Passed)
+      × (q ≡ placing (a .x) (a .y) (a .z) (a .divisor)))
+  placed =
+      blend-placed _ _ _ _ _ _ _ _
+      (sym (made .blend .ensures .0) ∙ c .before .before .before .blended .given .1)
 
-valued : (c : tie.After-value) → (let q = c .before .before .q .given .0 .0 in
-    c .value .result ≡ value-at (start (c .before .before .before .before .before)) q (weightSum q))
-valued c = c .value .ensures
+  sized : (let a = start .args in
+      Sized (a .unit) (now (a .net)) (now (a .corrections)) (now (a .uncertainties)) q)
+  sized = made .blend .ensures .1 .1 .1 q (c .before .before .before .blended .given .1)
 
-check-lent-requires : tie.Need-check-lent-requires
-check-lent-requires c κs = search needs
+  scaled : Scaled (c .degree-of .result) q
+  scaled =
+      subst (λ (k : ℕ). Scaled k q) (sym degree-is)
+      (subst (Scaled m) (sym (placed .1)) (scaled-of _ _ _ _ _ _ _ _ (placed .0)))
 
-enum-known-refusal : tie.Need-enum-known-refusal
-enum-known-refusal c = search needs
+  -- what the arrays hold
+  shift-is : (t : ℕ) → t < localPlaces m → (let a = start .args in
+      signedAt shifts t ≡ blendedCorrectionAt (a .unit) (now (a .net)) (now (a .corrections)) q t)
+  shift-is t h =
+      let a = start .args in
+      ap (λ (l : List ℤ). signedAt l t) (made .blend .ensures .1 .0)
+      ∙ shift-at _ _ _ _ _ _ _ _ (placed .0) _ t h
+      ∙ ap (λ (p : Placing). blendedCorrectionAt (a .unit) (now (a .net)) (now (a .corrections)) p t)
+      (sym (placed .1))
+
+  spread-is : (t : ℕ) → t < localPlaces m → (let a = start .args in
+      numberAt spreads t ≡ blendedUncertaintyAt (a .unit) (now (a .net)) (now (a .uncertainties)) q t)
+  spread-is t h =
+      let a = start .args in
+      ap (λ (l : List ℕ). numberAt l t) (made .blend .ensures .1 .1 .0)
+      ∙ spread-at _ _ _ _ _ _ _ _ (placed .0) _ t h
+      ∙ ap (λ (p : Placing). blendedUncertaintyAt (a .unit) (now (a .net)) (now (a .uncertainties)) p t)
+      (sym (placed .1))
+
+  sizes-held : BlendedSizes (c .degree-of .result) (signedAt shifts) (numberAt spreads)
+  sizes-held =
+      subst (λ (k : ℕ). BlendedSizes k (signedAt shifts) (numberAt spreads)) (sym degree-is) (record {
+        of-shifts = λ t h. rw (shift-is t h) (sized .of-corrections t h);
+        of-spreads = λ t h. rw (spread-is t h) (sized .of-uncertainties t h);
+      })
+
+-- the sums are N and U
+sums-are : (c : tie.After-bernstein-sums) → (let d = c .before .before .before in
+    let a = start d .args in
+    c .bernstein-sums .result
+    ≡ part (shiftNumerator (netOf (a .unit)) (numberAt (now (a .net)))
+    (correctionAt (sizes (a .unit)) (now (a .corrections))) (placing (a .x) (a .y) (a .z) (a .divisor)))
+    (uncertaintyNumerator (netOf (a .unit)) (numberAt (now (a .net)))
+    (uncertaintyAt (sizes (a .unit)) (now (a .uncertainties))) (placing (a .x) (a .y) (a .z) (a .divisor))))
+sums-are c =
+    let d = c .before .before .before in
+    let a = start d .args in
+    let v = netOf (a .unit) in
+    let net = numberAt (now (a .net)) in
+    let corrections = correctionAt (sizes (a .unit)) (now (a .corrections)) in
+    let uncertainties = uncertaintyAt (sizes (a .unit)) (now (a .uncertainties)) in
+    c .bernstein-sums .ensures
+    ∙ ap (λ (k : ℕ). partsTo k (q d) (signedAt (shifts d)) (numberAt (spreads d))) (degree-is d)
+    ∙ parts-are (a .unit) (q d) (now (a .net)) (degree-few _ _ _ _ _ _ _ _ (placed d .0))
+    (now (a .corrections)) (now (a .uncertainties)) (signedAt (shifts d)) (numberAt (spreads d))
+    (shift-is d) (spread-is d)
+    ∙ ap
+    (λ (p : Placing). part (shiftNumerator v net corrections p) (uncertaintyNumerator v net uncertainties p))
+    (placed d .1)
+
+-- and the denominator is m!×D^m
+denominator-is : (c : tie.After-denominator) → (let d = c .before .before .before .before in
+    c .denominator .result ≡ scale (m d) (start d .args .divisor))
+denominator-is c =
+    let d = c .before .before .before .before in
+    let a = start d .args in
+    c .denominator .ensures
+    ∙ ap₂ (λ (k : ℕ) (p : Placing). scale k (weightSum p)) (degree-is d) (placed d .1)
+    ∙ ap (scale (m d))
+    (weights-add-up (a .x) (a .y) (a .z) (a .divisor) (divisor-some _ _ _ _ _ _ _ _ (placed d .0)))
+
+blend-requires : tie.Need-blend-requires
+blend-requires c κs = search needs
+
+enum-known-blended : tie.Need-enum-known-blended
+enum-known-blended c = search needs
+
+of-unit-requires : tie.Need-of-unit-requires
+of-unit-requires c κs = search needs
+
+degree-of-requires : tie.Need-degree-of-requires
+degree-of-requires c κs = search needs
+
+bernstein-sums-requires : tie.Need-bernstein-sums-requires
+bernstein-sums-requires c κs = (scaled (c .before .before), sizes-held (c .before .before))
+
+denominator-requires : tie.Need-denominator-requires
+denominator-requires c κs = scaled (c .before .before .before)
+
+enum-known-blended-2 : tie.Need-enum-known-blended-2
+enum-known-blended-2 c = search needs
 
 returns : tie.Need-returns
-unfolding pointAnswer
-returns c = simp (sym (c .before .before .before .check-lent .ensures) ∙ c .before .refusal .given .1)
-
-enum-told : tie.Need-enum-told
-enum-told c = search needs
-
-place-requires : tie.Need-place-requires
-place-requires c κs = search needs
-
-enum-known-q : tie.Need-enum-known-q
-enum-known-q c = search needs
-
-value-requires : tie.Need-value-requires
-value-requires c κs =
-    let t = c .before .before .before .before in
-    let a = start t .args in
-    let p = point-placed c in
-    rw (p .1)
-    (fit (a .unit) (length (now (a .net))) (length (now (a .corrections))) (length (now (a .uncertainties)))
-    (a .x) (a .y) (a .z) (a .divisor) (held t) (point-accepted _ _ _ _ _ (p .0)))
-
-enum-known-refusal-2 : tie.Need-enum-known-refusal-2
-enum-known-refusal-2 c = search needs
+returns c =
+    let b = c .before .before in
+    let f : SFits w64 (b .bernstein-sums .result .numerator)
+    = record { sfits = c .struct-told .given .0 .1 } in
+    rw (toZ-ofZ f, sums-are b, denominator-is (c .before))
+    (answer-made _ _ _ _ _ _ _ _ (placed (b .before .before .before) .0))
 
 returns-2 : tie.Need-returns-2
-unfolding pointAnswer
 returns-2 c =
-    let t = c .before .before .before .before .before in
-    let s = start t in
-    let a = s .args in
-    let p = point-placed (c .before) in
-    let some = point-accepted _ _ _ _ _ (p .0) .some in
-    simp (passed t, p .0)
-    (valued c
-    ∙ ap (λ (q : Placing). value-at s q (weightSum q)) (p .1)
-    ∙ ap (value-at s (placing (a .x) (a .y) (a .z) (a .divisor)))
-    (weights-add-up (a .x) (a .y) (a .z) (a .divisor) some))
-
-returns-3 : tie.Need-returns-3
-unfolding pointAnswer
-returns-3 c =
-    let t = c .before .before .before .before in
-    let a = start t .args in
-    let refused = sym (place-is (c .before .before .before)) ∙ c .before .refusal2 .given .1 in
-    simp (passed t, place-refused (a .unit) (a .x) (a .y) (a .z) (a .divisor) (unit-passed t) refused)
+    answer-refused _ _ _ _ _ _ _ _
+    (sym (c .before .before .before .blend .ensures .0) ∙ c .before .blended2 .given .1)
 
 pub answer-spec : {M : Type 1} → statement M
 answer-spec =
     tie.close
     (tie.spec
-    check-lent-requires
-    enum-known-refusal
+    blend-requires
+    enum-known-blended
+    of-unit-requires
+    degree-of-requires
+    bernstein-sums-requires
+    denominator-requires
+    enum-known-blended-2
     returns
-    enum-told
-    place-requires
-    enum-known-q
-    value-requires
-    enum-known-refusal-2
-    returns-2
-    returns-3)
+    returns-2)

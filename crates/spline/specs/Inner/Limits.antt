@@ -1,4 +1,4 @@
--- The limits on multiplicities, as facts about numbers.
+-- Section 2.2: the limits on multiplicities, as facts about numbers.
 use Prim.Native.Nat.{_+_, _≤_, ℕ}
 use Rattle.spline.specs.Multiplicities.{Multiplicities}
 

@@ -9,7 +9,7 @@ use evaluator::formats::{digest, join, listing};
 use evaluator::net::{Multiplicities, Net};
 use evaluator::unit::Unit;
 
-/// The order in which document 01 takes up the repeats: all of 1, of 3, of 2, of 4.
+/// The order that defines a net: all repeats of 1, then of 3, of 2, of 4.
 fn defined_order(v: Multiplicities) -> Vec<u8> {
     [1, 3, 2, 4].into_iter().flat_map(|d| vec![d; v.counts()[usize::from(d) - 1] - 1]).collect()
 }

@@ -1,0 +1,75 @@
+//! Where a point lies: its cell, the order of the axes, and the weights.
+
+use crate::hand::shape::Shape;
+use crate::hand::{Refusal, refuse};
+
+const LARGEST_DIVISOR: u32 = 4096;
+const LARGEST_DENOMINATOR: u64 = 1 << 48;
+/// Those of degree 9.
+const MOST_LOCAL_PLACES: usize = 220;
+
+pub struct Placing {
+    /// k on each axis.
+    pub cell: [usize; 3],
+    /// The axes p, r, s.
+    pub axes: [usize; 3],
+    /// L0 to L3.
+    pub weights: [u64; 4],
+    /// m!×D^m
+    pub denominator: u64,
+}
+
+impl Placing {
+    /// How far apart in the net neighbours on the axes p, r, s stand.
+    pub fn strides(&self, shape: &Shape) -> [usize; 3] {
+        let strides = shape.strides();
+        self.axes.map(|axis| strides[axis])
+    }
+
+    /// Where all local places stand in the net, in the order in which their blended numbers are asked for.
+    pub fn local_places(&self, shape: &Shape) -> Vec<usize> {
+        let [p, r, s] = self.strides(shape);
+        let mut list = Vec::with_capacity(MOST_LOCAL_PLACES);
+        for a1 in 0..=shape.degree {
+            for a2 in 0..=a1 {
+                for a3 in 0..=a2 {
+                    list.push(p * a1 + r * a2 + s * a3);
+                }
+            }
+        }
+        list
+    }
+}
+
+/// m!×D^m, none above the limit. The product so far never exceeds the whole one, so none on the way
+/// overflows.
+fn denominator(degree: usize, divisor: u32) -> Option<u64> {
+    (1..=degree as u64).try_fold(1, |product, i| {
+        let product = product * i * u64::from(divisor);
+        (product <= LARGEST_DENOMINATOR).then_some(product)
+    })
+}
+
+/// Checks 10, 11, 12.
+pub fn place(
+    shape: &Shape,
+    sizes: [usize; 3],
+    coordinates: [u32; 3],
+    divisor: u32,
+) -> Result<Placing, Refusal> {
+    if divisor == 0 || divisor > LARGEST_DIVISOR {
+        return refuse(10);
+    }
+    let Some(denominator) = denominator(shape.degree, divisor) else { return refuse(11) };
+    let cell = coordinates.map(|c| (c / divisor) as usize);
+    let inside = (0..3).all(|b| shape.extents[b] <= cell[b] + 1 && cell[b] < sizes[b]);
+    if !inside {
+        return refuse(12);
+    }
+    let rest = coordinates.map(|c| u64::from(c % divisor));
+    let mut axes = [0, 1, 2];
+    // Stable: of equal remainders the lower axis stays first.
+    axes.sort_by(|&a, &b| rest[b].cmp(&rest[a]));
+    let [p, r, s] = axes.map(|axis| rest[axis]);
+    Ok(Placing { cell, axes, weights: [u64::from(divisor) - p, p - r, r - s, s], denominator })
+}

@@ -1,0 +1,126 @@
+use super::{pick, random_unit};
+use crate::hand::{Call, Fraction, Refusal, TUNED, answer, defined_order};
+use crate::torskavel::{self, Unit};
+use evaluator::random::Random;
+use std::collections::BTreeSet;
+
+const CALLS: usize = 20_000;
+const PLACES: usize = 41 * 41 * 41;
+
+/// The number of the library's refusal, 0 for none, where all agree.
+fn agreed(call: &Call) -> u32 {
+    let &Call { unit, net, corrections, uncertainties, coordinates, divisor } = call;
+    let library = torskavel::answer(unit, net, corrections, uncertainties, coordinates, divisor);
+    let (numerator, uncertainty) = (library.numerator, library.uncertainty);
+    let expected = match library.number {
+        0 => Ok(Fraction { numerator, uncertainty, denominator: library.denominator }),
+        number => Err(Refusal { number, place: library.place }),
+    };
+    assert_eq!(answer(call), expected, "{unit:?} {coordinates:?} {divisor}");
+    for (shape, tuned) in TUNED {
+        assert_eq!(tuned(call), expected, "{shape} {unit:?} {coordinates:?} {divisor}");
+    }
+    library.number
+}
+
+/// Shares that add up to m! nearly everywhere, so that points are answered, and are refused with 23.
+fn nearly_defined(unit: Unit, random: &mut Random, net: &mut [u32], work: &mut [i32]) {
+    torskavel::build(unit, &defined_order([unit.v1, unit.v2, unit.v3, unit.v4]), net, work);
+    if random.below(3) == 0 {
+        net[random.between(0, 2000)] = 1;
+    }
+}
+
+#[test]
+fn points_agree() {
+    let mut random = Random::new(2);
+    let (mut net, mut work) = (vec![0; PLACES], vec![0; PLACES]);
+    let mut numbers = BTreeSet::new();
+    for _ in 0..CALLS {
+        let unit = random_unit(&mut random);
+        nearly_defined(unit, &mut random, &mut net, &mut work);
+        let mut corrections: Vec<i16> =
+            (0..216).map(|_| (random.below(65535) as i32 - 32767) as i16).collect();
+        let uncertainties: Vec<u16> = (0..216).map(|_| random.below(65536) as u16).collect();
+        if random.below(4) == 0 {
+            corrections[random.between(0, 215)] = i16::MIN;
+        }
+        let divisor = pick(&mut random, &[1, 2, 3, 7, 64, 64, 297, 0, 4096, 4097]);
+        let coordinates = [0; 3].map(|_| random.below(6 * u64::from(divisor) + 1) as u32);
+        let net = &net[..pick(&mut random, &[PLACES, PLACES, PLACES, 2196, 26])];
+        let corrections = &corrections[..pick(&mut random, &[215, 216, 216, 216, 216, 64])];
+        let uncertainties = &uncertainties[..];
+        numbers.insert(agreed(&Call { unit, net, corrections, uncertainties, coordinates, divisor }));
+    }
+    assert_eq!(numbers, BTreeSet::from([0, 4, 9, 10, 11, 12, 13, 21, 22, 23]));
+}
+
+/// Multiplicities of each degree from 4, and the largest divisor of each.
+const LENT: [([u8; 4], u32); 7] = [
+    ([2, 2, 2, 1], 1850),
+    ([2, 2, 2, 2], 297),
+    ([3, 2, 2, 2], 85),
+    ([1, 4, 3, 2], 34),
+    ([3, 3, 3, 2], 17),
+    ([3, 3, 3, 3], 9),
+    ([1, 1, 1, 9], 9),
+];
+/// On each axis of the block.
+const SIZE: usize = 11;
+const ENTRIES: usize = SIZE * SIZE * SIZE;
+
+/// Measured entries: any, or all the largest, or all the smallest.
+fn random_block(random: &mut Random) -> (Vec<i16>, Vec<u16>) {
+    match random.below(3) {
+        0 => (vec![32767; ENTRIES], vec![65535; ENTRIES]),
+        1 => (vec![-32767; ENTRIES], vec![65535; ENTRIES]),
+        _ => (0..ENTRIES)
+            .map(|_| ((random.below(65535) as i32 - 32767) as i16, random.below(65536) as u16))
+            .unzip(),
+    }
+}
+
+/// Moves some of a share to the next entry of the row, so that the shares still add up, or, rarely, changes
+/// one by a power of 2, which a sum of too few bits would lose.
+fn disturb(net: &mut [u32], degree: usize, random: &mut Random) {
+    let from = random.between(0, net.len() - 1 - degree);
+    if random.below(50) == 0 {
+        net[from] = net[from].wrapping_add(1 << random.below(32));
+    } else {
+        let moved = random.below(u64::from(net[from]) + 1) as u32;
+        net[from] -= moved;
+        net[from + degree] = net[from + degree].wrapping_add(moved);
+    }
+}
+
+#[test]
+fn lent_nets_of_any_numbers_agree() {
+    let mut random = Random::new(5);
+    for (v, largest) in LENT {
+        let empty = torskavel::empty_unit();
+        let loaded = Unit { has_block: 1, n1: SIZE as u16, n2: SIZE as u16, n3: SIZE as u16, ..empty };
+        let degree = v.iter().map(|&v| usize::from(v)).sum::<usize>() - 3;
+        let (mut net, mut work) = (vec![0; torskavel::places(v)], vec![0; torskavel::places(v)]);
+        let mut numbers = BTreeSet::new();
+        for _ in 0..40 {
+            let unit = torskavel::build(loaded, &defined_order(v), &mut net, &mut work).unit;
+            let (corrections, uncertainties) = random_block(&mut random);
+            for _ in 0..20 {
+                disturb(&mut net, degree, &mut random);
+                let divisor = pick(&mut random, &[1, largest - 1, largest]);
+                let coordinates =
+                    [0; 3].map(|_| random.between(8 * divisor as usize, SIZE * divisor as usize - 1) as u32);
+                let call = Call {
+                    unit,
+                    net: &net,
+                    corrections: &corrections,
+                    uncertainties: &uncertainties,
+                    coordinates,
+                    divisor,
+                };
+                numbers.insert(agreed(&call));
+            }
+        }
+        assert!(numbers.contains(&0) && numbers.contains(&23), "{v:?} {numbers:?}");
+    }
+}

@@ -1,0 +1,131 @@
+-- The answer of a blending call, case by case, and what it takes to blend at a placing.
+use mathlib.Core.Bool.{false, true}
+use mathlib.Core.List.{List}
+use mathlib.Core.Path.{_≡_, refl}
+use Prim.Native.Nat.{ℕ}
+use native.Mathlib.Omega.{arith}
+use lib.IntN.{ℤ}
+use lib.ListN.{length}
+use Rattle.sums.specs.Fill.{filled}
+use Rattle.sums.specs.Search.{at, nowhere}
+use Rattle.spline.specs.Multiplicities.{Multiplicities, degree}
+use Rattle.spline.specs.Place.{Axis}
+use Rattle.unit.specs.Checks.{refusal}
+use Rattle.unit.specs.Unit.{netOf}
+use Rattle.unit.specs.declared.Checked.{Checked}
+use Rattle.unit.specs.declared.Checked.the-variants.{Passed, Stopped}
+use Rattle.unit.specs.declared.Refusal.{Refusal}
+use Rattle.unit.specs.declared.Unit.{Unit}
+use Rattle.placing.proofs.Placed.{Lent, PointAccepted}
+use Rattle.placing.proofs.Ranks.{placing-axes}
+use Rattle.placing.specs.Place.{lentChecks, pointChecks}
+use Rattle.placing.specs.Placing.{placing, placingCell, sizes}
+use Rattle.placing.specs.declared.Placing.{Placing}
+use Rattle.placing.specs.declared.PlacingAnswer.the-variants.{Placed, Refused}
+use Rattle.blending.specs.Blend.{blendAnswer, blendChecks, blendedCorrectionAt, blendedCorrections}
+use Rattle.blending.specs.Blend.{blendedUncertaintyAt, blendedUncertainties, correctionAt}
+use Rattle.blending.specs.Blend.{Sized, numberAt, windowChecks, writtenIf}
+use Rattle.blending.specs.Blending.{addsUp}
+use Rattle.blending.specs.Gaps.{firstGap}
+use Rattle.blending.specs.Inner.Fit.{Fit}
+use Rattle.blending.specs.LocalPlaces.{localPlaces}
+
+module _ (u : Unit) (netLength correctionsLength uncertaintiesLength : ℕ) where
+  -- a placing that no check has refused can be blended
+  pub fit : (x y z D : ℕ) → Lent u netLength correctionsLength uncertaintiesLength → PointAccepted u x y z D
+      → Fit u netLength correctionsLength uncertaintiesLength (placing x y z D)
+  unfolding placing
+  fit x y z D l p = record {
+    net-held = l .unit .net-held;
+    block-held = l .unit .block-held;
+    net-long = l .net-long;
+    corrections-long = l .corrections-long;
+    uncertainties-long = l .uncertainties-long;
+    point-inside = p .point-inside;
+    axes = placing-axes x y z D;
+  }
+
+-- ---- the checks of the window
+
+module _ (v : Multiplicities) (n : Axis → ℕ) (net : ℕ → ℕ) (corrections : ℕ → ℕ → ℕ → ℤ) (q : Placing) where
+  -- a gap is 13 with its index
+  pub window-gapped : (i : ℕ) → firstGap v n corrections (placingCell q) ≡ at i
+      → windowChecks v n net corrections q ≡ Stopped (refusal 13 i)
+  unfolding windowChecks
+  window-gapped i e = rw e refl
+
+  -- with no gap, shares that do not add up are 23
+  pub window-uneven : firstGap v n corrections (placingCell q) ≡ nowhere → addsUp v net q ≡ false
+      → windowChecks v n net corrections q ≡ Stopped (refusal 23 0)
+  unfolding windowChecks
+  window-uneven e a = rw (e, a) refl
+
+  -- and shares that add up pass
+  pub window-passed : firstGap v n corrections (placingCell q) ≡ nowhere → addsUp v net q ≡ true
+      → windowChecks v n net corrections q ≡ Passed
+  unfolding windowChecks
+  window-passed e a = rw (e, a) refl
+
+-- ---- what is written
+
+module _ {A : Type 0} {k : Checked} (f : ℕ → A) (u : Unit) (d : List A) where
+  -- nothing where a check has refused
+  pub nothing-written : {r : Refusal} → k ≡ Stopped r → d ≡ writtenIf k f u d
+  unfolding writtenIf
+  nothing-written e = rw e refl
+
+  -- every local place's number where all have passed
+  pub all-written : k ≡ Passed → writtenIf k f u d ≡ filled f (localPlaces (degree (netOf u))) d
+  unfolding writtenIf
+  all-written e = rw e refl
+
+-- ---- the whole call
+
+module _ (u : Unit) (net : List ℕ) (corrections : List ℤ) (uncertainties : List ℕ) (x y z D : ℕ) where
+  abbrev lent-checks : Checked
+  lent-checks = lentChecks u (length net) (length corrections) (length uncertainties)
+
+  abbrev checks : Checked
+  checks = blendChecks u net corrections uncertainties x y z D
+
+  -- what the checks come to, by which of them refuses first
+  pub lent-refused : {r : Refusal} → lent-checks ≡ Stopped r → checks ≡ Stopped r
+  unfolding blendChecks
+  lent-refused e = rw e refl
+
+  pub point-refused : {r : Refusal} → lent-checks ≡ Passed → pointChecks u x y z D ≡ Stopped r
+      → checks ≡ Stopped r
+  unfolding blendChecks
+  point-refused e h = rw (e, h) refl
+
+  pub window-decides : lent-checks ≡ Passed → pointChecks u x y z D ≡ Passed
+      → checks
+      ≡ windowChecks (netOf u) (sizes u) (numberAt net) (correctionAt (sizes u) corrections) (placing x y z D)
+  unfolding blendChecks
+  window-decides e h = rw (e, h) refl
+
+  -- a refusal is answered, and the arrays stay
+  pub blend-refused : {r : Refusal} (shifts : List ℤ) (spreads : List ℕ) → checks ≡ Stopped r
+      → (Refused r ≡ blendAnswer u net corrections uncertainties x y z D)
+      × ((shifts ≡ blendedCorrections u net corrections uncertainties x y z D shifts)
+      × ((spreads ≡ blendedUncertainties u net corrections uncertainties x y z D spreads)
+      × ((q : Placing) → Refused r ≡ Placed q → Sized u net corrections uncertainties q)))
+  unfolding blendAnswer blendedCorrections blendedUncertainties
+  blend-refused shifts spreads e = (
+    rw e refl,
+    (
+      nothing-written _ u shifts e,
+      (nothing-written _ u spreads e, λ q h. let z : _≡_ {A = ℕ} 0 1 = cc in absurd (omega arith)),
+    ),
+  )
+
+  -- else the placing is, and they are written
+  pub blend-made : (shifts : List ℤ) (spreads : List ℕ) → checks ≡ Passed
+      → (let q = placing x y z D in
+      (Placed q ≡ blendAnswer u net corrections uncertainties x y z D)
+      × ((writtenIf Passed (blendedCorrectionAt u net corrections q) u shifts
+      ≡ blendedCorrections u net corrections uncertainties x y z D shifts)
+      × (writtenIf Passed (blendedUncertaintyAt u net uncertainties q) u spreads
+      ≡ blendedUncertainties u net corrections uncertainties x y z D spreads)))
+  unfolding blendAnswer blendedCorrections blendedUncertainties
+  blend-made shifts spreads e = (rw e refl, (rw e refl, rw e refl))

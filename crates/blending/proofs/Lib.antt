@@ -1,0 +1,15 @@
+pub mod Machine
+pub mod Sweep
+pub mod Steps
+pub mod Indices
+pub mod Gaps
+pub mod SoFar
+pub mod Turns
+pub mod FirstGap
+pub mod Searches
+pub mod LocalPlaces
+pub mod Numbers
+pub mod Windows
+pub mod Values
+pub mod Sizes
+pub mod Answers

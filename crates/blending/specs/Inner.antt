@@ -1,0 +1,5 @@
+pub mod Fit
+pub mod Frame
+pub mod Sums
+pub mod Search
+pub mod Window

@@ -1,0 +1,5 @@
+pub mod LocalPlaces
+pub mod Blending
+pub mod Gaps
+pub mod Blend
+pub mod Inner

@@ -1,0 +1,159 @@
+// The blended numbers of a point: from unit, net, block and point the blended correction and uncertainty
+// at every local place of the point's tetrahedron, or the refusal that applies. Section 10.
+ghost use mathlib.Core.Path.{_≡_};
+ghost use Prim.Native.Nat.{_≤_};
+ghost use lib.Dec.{eqb};
+ghost use lib.ListN.{length};
+ghost use Rattle.sums.specs.Fill.{filled};
+ghost use Rattle.sums.specs.Search.{allTo};
+ghost use Rattle.unit.specs.Unit.{netOf};
+ghost use Rattle.unit.specs.declared.Checked.the-variants.{Passed};
+ghost use Rattle.placing.specs.Placing.{sizes};
+ghost use Rattle.placing.specs.declared.Placing.{Placing};
+ghost use Rattle.placing.specs.declared.PlacingAnswer.the-variants.{Placed};
+ghost use Rattle.blending.specs.Blend.{blendAnswer, blendedCorrections, blendedUncertainties};
+ghost use Rattle.blending.specs.Blend.{blendedCorrectionAt, blendedUncertaintyAt, numberAt, signedAt};
+ghost use Rattle.blending.specs.Blend.{Sized, correctionAt, windowChecks, writtenIf};
+ghost use Rattle.blending.specs.Inner.Fit.{Fit};
+use crate::window::Gap;
+use placing::Placing;
+use placing::PlacingAnswer;
+use unit::Checked;
+use unit::Unit;
+
+mod frame;
+pub mod local;
+mod window;
+
+// Whether the first of the sums of shares are all the whole share.
+fn adds_up(shares: &[u64; 220], count: usize, full: u64) -> bool
+    requires { ⌜ count ≤ 220 ⌝ }
+    ensures { λ r. ⌜ r ≡ allTo count (λ t. eqb (numberAt (now (shares .entry)) t) full) ⌝ }
+{
+    let mut t = 0;
+    while t < count {
+        if shares[t] != full {
+            return false;
+        }
+        t += 1;
+    }
+    true
+}
+
+// Writes the first of the blended numbers to the caller's arrays.
+fn hand_over(
+    count: usize,
+    made: &[i64; 220],
+    spread: &[u64; 220],
+    shifts: &mut [i64],
+    spreads: &mut [u64],
+)
+    requires { ⌜ (count ≤ 220) × (220 ≤ length (now shifts)) × (220 ≤ length (now spreads)) ⌝ }
+    ensures { λ r. ⌜ now (shifts .exit)
+        ≡ filled (signedAt (now (made .entry))) count (now (shifts .entry)) ⌝ }
+    ensures { λ r. ⌜ now (spreads .exit)
+        ≡ filled (numberAt (now (spread .entry))) count (now (spreads .entry)) ⌝ }
+{
+    let mut t = 0;
+    while t < count {
+        shifts[t] = made[t];
+        spreads[t] = spread[t];
+        t += 1;
+    }
+}
+
+// The blended numbers at a placing, or 13 with the lowest index of a gap, or 23.
+fn blend_at(
+    unit: Unit,
+    net: &[u32],
+    corrections: &[i16],
+    uncertainties: &[u16],
+    q: Placing,
+    shifts: &mut [i64],
+    spreads: &mut [u64],
+) -> Checked
+    requires { ⌜ Fit unit (length (now net)) (length (now corrections)) (length (now uncertainties)) q
+        × (220 ≤ length (now shifts)) × (220 ≤ length (now spreads)) ⌝ }
+    ensures { λ r. ⌜ r ≡ windowChecks (netOf unit) (sizes unit) (numberAt (now (net .entry)))
+        (correctionAt (sizes unit) (now (corrections .entry))) q ⌝ }
+    ensures { λ r. ⌜ now (shifts .exit)
+        ≡ writtenIf r (blendedCorrectionAt unit (now (net .entry)) (now (corrections .entry)) q)
+        unit (now (shifts .entry)) ⌝ }
+    ensures { λ r. ⌜ now (spreads .exit)
+        ≡ writtenIf r (blendedUncertaintyAt unit (now (net .entry)) (now (uncertainties .entry)) q)
+        unit (now (spreads .entry)) ⌝ }
+    ensures { λ r. ⌜ (r ≡ Passed
+        → Sized unit (now (net .entry)) (now (corrections .entry)) (now (uncertainties .entry)) q) ⌝ }
+{
+    let f = frame::framed(unit, q);
+    let offsets = window::offsets_of(f);
+    let mut shares = [0u64; 220];
+    let mut c = [0i64; 220];
+    let mut u = [0u64; 220];
+    let gap = window::add_window(
+        net,
+        corrections,
+        uncertainties,
+        f,
+        &offsets,
+        &mut shares,
+        &mut c,
+        &mut u,
+    );
+    if let Gap::At(i) = gap {
+        return Checked::stop(13, i);
+    }
+    let count = f.count;
+    let full = f.full;
+    if !adds_up(&shares, count, full) {
+        return Checked::stop(23, 0);
+    }
+    hand_over(count, &c, &u, shifts, spreads);
+    Checked::Passed
+}
+
+// The placing of the point X, Y, Z over a divisor and, in the two arrays, the blended correction and
+// uncertainty at each of its local places in turn; or the first refusal that applies of 21, 22, 4, 9,
+// 10, 11, 12, 13, 23, with the lowest index of a gap for 13, and arrays as they were. The last clause
+// follows from the others and the sizes of the slices' elements, which a caller does not see.
+pub fn blend(
+    unit: Unit,
+    net: &[u32],
+    corrections: &[i16],
+    uncertainties: &[u16],
+    x: u32,
+    y: u32,
+    z: u32,
+    divisor: u32,
+    shifts: &mut [i64; 220],
+    spreads: &mut [u64; 220],
+) -> PlacingAnswer
+    ensures { λ r. ⌜ r ≡ blendAnswer unit (now (net .entry)) (now (corrections .entry))
+        (now (uncertainties .entry)) x y z divisor ⌝ }
+    ensures { λ r. ⌜ now (shifts .exit)
+        ≡ blendedCorrections unit (now (net .entry)) (now (corrections .entry)) (now (uncertainties .entry))
+        x y z divisor (now (shifts .entry)) ⌝ }
+    ensures { λ r. ⌜ now (spreads .exit)
+        ≡ blendedUncertainties unit (now (net .entry)) (now (corrections .entry)) (now (uncertainties .entry))
+        x y z divisor (now (spreads .entry)) ⌝ }
+    ensures { λ r. ⌜ ((q : Placing) → r ≡ Placed q
+        → Sized unit (now (net .entry)) (now (corrections .entry)) (now (uncertainties .entry)) q) ⌝ }
+{
+    if let Checked::Stopped(refusal) = placing::check_lent(
+        unit,
+        net.len(),
+        corrections.len(),
+        uncertainties.len(),
+    ) {
+        return PlacingAnswer::Refused(refusal);
+    }
+    let placed = placing::place(unit, x, y, z, divisor);
+    let PlacingAnswer::Placed(q) = placed else {
+        return placed;
+    };
+    let checked = blend_at(unit, net, corrections, uncertainties, q, shifts, spreads);
+    if let Checked::Stopped(refusal) = checked {
+        return PlacingAnswer::Refused(refusal);
+    }
+    placed
+}

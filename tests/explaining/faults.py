@@ -1,0 +1,124 @@
+"""What cannot be explained: command lines and streams of no use, each with a message and status 2, and a
+library that answers something else than its net and block come to, which is told with status 3."""
+import os
+import subprocess
+
+from evaluator import ROOT
+from explaining.told import PROGRAM, field, run, same, stop
+
+REFUSED, FAULT, DIFFERS = 1, 2, 3  # statuses
+
+
+def complained(*words, fragment="", **streams):
+    """Ends with a message that has this in it, and prints nothing."""
+    text, complaint = run(*words, status=FAULT, **streams)
+    if text or not complaint.startswith("explain: ") or fragment not in complaint:
+        stop(words, f"wrote {text[:80]!r} and said {complaint[:80]!r}")
+
+
+def command_lines(good):
+    point = (good, "1", 1, 1, 1, 1)
+    bad = [(), (good,), (good, "1"), point[:-1], (*point, 1), (*point, "--page"), (*point, "--page", "")]
+    bad += [(*point, "--pages", "x"), (good, "1", "--refused")]
+    for words in bad:
+        complained(*words)
+    none = ("-1", "3.4", "", " 1", "1 ", "x", "0x10", "1e3", "4294967296", "9" * 400, b"\xff", "\u0663")
+    for number in none:
+        for at in range(4):
+            words = [2, 2, 2, 1]
+            words[at] = number
+            complained(good, "1", *words, fragment="is no whole number from 0 to 4294967295")
+    return len(bad) + 4 * len(none)
+
+
+def files(good, folder):
+    complained(folder, "1", 1, 1, 1, 1, fragment="Is a directory")
+    complained(folder / "missing", "1", 1, 1, 1, 1, fragment="No such file")
+    complained("", "1", 1, 1, 1, 1, fragment="No such file")
+    complained("bad\nname\x1b[2J", "1", 1, 1, 1, 1, fragment="bad\ufffdname\ufffd[2J")
+    complained(good, "1", 2, 1, 1, 1, "--page", folder / "missing/page.html", fragment="No such file")
+    complained(good, "1", 2, 1, 1, 1, "--page", folder, fragment="Is a directory")
+    complained(good, "1", 2, 1, 1, 1, "--page", "/dev/full", fragment="No space left")
+    before = good.read_bytes()
+    complained(good, "1", 2, 1, 1, 1, "--page", folder / "." / good.name, fragment="this is the field file")
+    same("a page over the file", "file", good.read_bytes(), before)
+    return 8
+
+
+def streams(good):
+    """A reader that goes away, a full output, closed streams: no panic."""
+    words = [str(good), "1", "2", "1", "1", "1"]
+    with open("/dev/full", "wb") as full:
+        complained(*words, fragment="standard output: No space left", stdout=full)
+        run("--help", status=FAULT, stdout=full)
+    reader, writer = os.pipe()
+    os.close(reader)
+    _, complaint = run(*words, status=FAULT, stdout=writer)
+    os.close(writer)
+    if complaint:
+        stop("a closed pipe", f"said {complaint!r}")
+    with open("/dev/full", "wb") as full:
+        ran = subprocess.run([PROGRAM, "missing", "1", "1", "1", "1", "1"], stderr=full)
+        if ran.returncode != FAULT:
+            stop("full standard error", f"ended with {ran.returncode}")
+    run(*words, preexec_fn=lambda: (os.close(0), os.close(1)))
+    if "usage: explain" not in run("--help")[0]:
+        stop("--help", "no usage")
+    return 6
+
+
+# The archive with one call under another name, behind one that changes what it answers.
+LIES = {
+    "answer": "answered.numerator += 1;",
+    "uncertainty": "answered.uncertainty -= 1;",
+    "denominator": "answered.denominator *= 2;",
+    "refusal": "answered.number = 23;",
+}
+LIAR = """
+#include "torskavel.h"
+typedef struct torskavel_point_answer answer;
+typedef struct torskavel_unit unit;
+answer true_answer(unit, const uint32_t *, size_t, const int16_t *, size_t, const uint16_t *, size_t,
+    uint32_t, uint32_t, uint32_t, uint32_t);
+answer torskavel_answer(unit held, const uint32_t *net, size_t net_length, const int16_t *c, size_t c_length,
+    const uint16_t *u, size_t u_length, uint32_t x, uint32_t y, uint32_t z, uint32_t d) {
+    answer answered = true_answer(held, net, net_length, c, c_length, u, u_length, x, y, z, d);
+    %s
+    return answered;
+}
+"""
+
+
+def liar(folder, name, lie):
+    """The program with such a library."""
+    out = folder / name
+    out.mkdir()
+    (out / "liar.c").write_text(LIAR % lie)
+    rename, archive = "--redefine-sym=torskavel_answer=true_answer", ROOT / "target/staticlib/libc_api.a"
+    cc = [os.environ.get("CC", "cc"), "-I", ROOT / "include", "-c", "-o", out / "liar.o", out / "liar.c"]
+    rustc = ["rustc", "--edition", "2024", "-L", out, "-l", "static=c_api", "-o", out / "explain"]
+    renamed = ["objcopy", rename, archive, out / "libc_api.a"]
+    added = ["ar", "r", out / "libc_api.a", out / "liar.o"]
+    for command in (renamed, cc, added, [*rustc, ROOT / "tools/explain/main.rs"]):
+        subprocess.run(command, check=True, stderr=subprocess.DEVNULL)
+    return out / "explain"
+
+
+def liars(good, folder):
+    page = folder / "liar.html"
+    for name, lie in LIES.items():
+        program = liar(folder, name, lie)
+        lied = DIFFERS, "THE SUMS DO NOT COME TO THIS ANSWER"
+        status, said = (REFUSED, "23: the net ") if name == "refusal" else lied
+        text, complaint = run(good, "1", 2, 1, 1, 1, program=program, status=status)
+        run(good, "1", 2, 1, 1, 1, "--page", page, program=program, status=status)
+        complains = "do not come to" in complaint
+        if said not in text or said not in page.read_text() or complains != (status == DIFFERS):
+            stop(f"a library with another {name}", "nothing is said")
+    return 2 * len(LIES)
+
+
+def tried(folder):
+    good = folder / "good.field"
+    good.write_bytes(field((3, 2, 2), range(12), range(12)))
+    return command_lines(good) + files(good, folder) + streams(good) + liars(good, folder)

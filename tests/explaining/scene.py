@@ -1,0 +1,38 @@
+"""Tables in files, with the net that is asked for at their points."""
+import math
+
+from evaluator import ask
+from explaining.told import GAP, field
+
+SEED = 14
+LARGEST = (4096, 4096, 4096, 1850, 297, 85, 34, 17, 9)  # divisors for the degrees 1 to 9
+
+
+class Scene:
+    """A table in a file, and the net of an order."""
+
+    def __init__(self, path, order, sizes, numbers_of, gaps=()):
+        self.path, self.order, self.sizes = path, order, sizes
+        self.v = tuple(1 + order.count(d) for d in "1234")
+        self.m, self.extents = sum(self.v) - 3, [self.v[b] + self.v[3] for b in range(3)]
+        n = math.prod(sizes)
+        self.corrections, self.uncertainties = numbers_of(n)
+        for gap in gaps:
+            self.corrections[gap] = GAP
+        path.write_bytes(field(sizes, self.corrections, self.uncertainties))
+
+    def evaluated(self, point, divisor):
+        return ask("point", *self.v, *self.sizes, *point, divisor, "--file", self.path).split()
+
+    def index(self, entry):
+        return entry[0] + self.sizes[0] * (entry[1] + self.sizes[1] * entry[2])
+
+    def inside(self, rng, divisor, remainders=None):
+        """A point inside the table."""
+        cells = [rng.randrange(self.extents[b] - 1, self.sizes[b]) for b in range(3)]
+        remainders = remainders or [rng.randrange(divisor) for _ in cells]
+        return [k * divisor + u for k, u in zip(cells, remainders)]
+
+
+def random_numbers(rng, most):
+    return lambda n: ([rng.randint(-most, most) for _ in range(n)], [rng.randint(0, most) for _ in range(n)])

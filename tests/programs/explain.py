@@ -1,0 +1,23 @@
+#!/usr/bin/env python3
+"""Runs the program `explain` as its user does, on files made here, and compares what it tells with the
+evaluator; then holds the page for the help line to it.
+
+Run in the repository, after `tools/explain/run --help` and `cargo build --release --offline` in evaluator/.
+"""
+import sys
+import tempfile
+import time
+from pathlib import Path
+
+sys.path.append(str(Path(__file__).resolve().parents[1]))
+from explaining import faults, help_line, page, points, refusals
+
+
+def main():
+    began = time.monotonic()
+    with tempfile.TemporaryDirectory() as folder:
+        counts = [part.tried(Path(folder)) for part in (points, refusals, faults, page, help_line)]
+    print(f"explain: {sum(counts)} runs as the evaluator has it, {time.monotonic() - began:.1f} s")
+
+
+main()

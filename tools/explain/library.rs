@@ -1,0 +1,129 @@
+//! What the library holds and answers: the net of an order, the block of a file, the answer of a point.
+
+use crate::torskavel::{self, MAX_ENTRIES, MAX_PLACES, NEVER_MEASURED, PointAnswer, Unit};
+
+#[derive(Clone, Copy)]
+pub struct Refusal {
+    pub number: u32,
+    pub place: usize,
+}
+
+/// An index of a box or a table as a place: x + w1×(y + w2×z) is (x, y, z).
+pub fn place_of(index: usize, [w1, w2, _]: [usize; 3]) -> [usize; 3] {
+    [index % w1, index / w1 % w2, index / w1 / w2]
+}
+
+fn index_of([x, y, z]: [usize; 3], [w1, w2, _]: [usize; 3]) -> usize {
+    x + w1 * (y + w2 * z)
+}
+
+pub struct Net {
+    pub multiplicities: [usize; 4],
+    numbers: Vec<u32>,
+}
+
+impl Net {
+    pub fn degree(&self) -> usize {
+        self.multiplicities.iter().sum::<usize>() - 3
+    }
+
+    pub fn extents(&self) -> [usize; 3] {
+        let [v1, v2, v3, v4] = self.multiplicities;
+        [v1 + v4, v2 + v4, v3 + v4]
+    }
+
+    pub fn widths(&self) -> [usize; 3] {
+        self.extents().map(|extent| self.degree() * extent + 1)
+    }
+
+    pub fn places(&self) -> usize {
+        self.widths().iter().product()
+    }
+
+    pub fn number_at(&self, place: [usize; 3]) -> u32 {
+        self.numbers[index_of(place, self.widths())]
+    }
+}
+
+pub struct Block {
+    pub sizes: [usize; 3],
+    corrections: Vec<i16>,
+    uncertainties: Vec<u16>,
+}
+
+impl Block {
+    pub fn entries(&self) -> usize {
+        self.sizes.iter().product()
+    }
+
+    pub fn correction(&self, entry: [usize; 3]) -> i16 {
+        self.corrections[index_of(entry, self.sizes)]
+    }
+
+    pub fn uncertainty(&self, entry: [usize; 3]) -> u16 {
+        self.uncertainties[index_of(entry, self.sizes)]
+    }
+
+    pub fn is_gap(&self, entry: [usize; 3]) -> bool {
+        self.correction(entry) == NEVER_MEASURED
+    }
+
+    /// The entries never measured, by their index.
+    pub fn gaps(&self) -> Vec<[usize; 3]> {
+        (0..self.entries())
+            .map(|index| place_of(index, self.sizes))
+            .filter(|&entry| self.is_gap(entry))
+            .collect()
+    }
+}
+
+/// The net that an order builds, with room for any.
+pub fn build(unit: Unit, order: &[u8]) -> (Unit, Result<Net, Refusal>) {
+    let mut numbers = vec![0; MAX_PLACES];
+    let mut work = vec![0; MAX_PLACES];
+    let answer = torskavel::build(unit, order, &mut numbers, &mut work);
+    if answer.number != 0 {
+        return (answer.unit, Err(Refusal { number: answer.number, place: answer.place }));
+    }
+    let Unit { v1, v2, v3, v4, .. } = answer.unit;
+    (answer.unit, Ok(Net { multiplicities: [v1, v2, v3, v4].map(usize::from), numbers }))
+}
+
+pub fn load(unit: Unit, file: &[u8]) -> (Unit, Result<Block, Refusal>) {
+    let mut corrections = vec![0; MAX_ENTRIES];
+    let mut uncertainties = vec![0; MAX_ENTRIES];
+    let answer = torskavel::load(unit, file, &mut corrections, &mut uncertainties);
+    if answer.number != 0 {
+        return (answer.unit, Err(Refusal { number: answer.number, place: answer.place }));
+    }
+    let Unit { n1, n2, n3, .. } = answer.unit;
+    (answer.unit, Ok(Block { sizes: [n1, n2, n3].map(usize::from), corrections, uncertainties }))
+}
+
+/// N, U and the denominator.
+#[derive(Clone, Copy, PartialEq, Eq)]
+pub struct Figure {
+    pub numerator: i128,
+    pub uncertainty: i128,
+    pub denominator: i128,
+}
+
+pub fn answer(
+    unit: Unit,
+    net: &Net,
+    block: &Block,
+    point: [u32; 3],
+    divisor: u32,
+) -> Result<Figure, Refusal> {
+    let answer =
+        torskavel::answer(unit, &net.numbers, &block.corrections, &block.uncertainties, point, divisor);
+    let PointAnswer { number, place, numerator, uncertainty, denominator } = answer;
+    if number != 0 {
+        return Err(Refusal { number, place });
+    }
+    Ok(Figure {
+        numerator: numerator.into(),
+        uncertainty: uncertainty.into(),
+        denominator: denominator.into(),
+    })
+}

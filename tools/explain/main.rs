@@ -1,0 +1,112 @@
+//! `explain`: how the unit comes to its figure, for any field file, order and point. Net, block and answer
+//! are the library's; the numbers on the way are worked out here from net and block, and must come to its
+//! answer.
+
+#[path = "../../include/torskavel.rs"]
+mod torskavel;
+
+mod cell_picture;
+mod decimal;
+mod layers_picture;
+mod library;
+mod page;
+mod parts;
+mod placing;
+mod refusals;
+mod report;
+mod request;
+mod sums;
+mod svg;
+mod tables;
+mod text;
+mod walk;
+
+use request::{Asked, Request};
+use std::fs::File;
+use std::io::{self, ErrorKind, Read, Write};
+use std::path::Path;
+use std::process::ExitCode;
+use walk::{Outcome, Walk};
+
+/// What the program ends with.
+enum End {
+    Told,
+    Refused,
+    Fault,
+    Differs,
+}
+
+impl End {
+    fn status(self) -> ExitCode {
+        ExitCode::from(match self {
+            End::Told => 0,
+            End::Refused => 1,
+            End::Fault => 2,
+            End::Differs => 3,
+        })
+    }
+}
+
+/// Says something on standard error; where even that cannot be written, the status alone tells.
+fn complain(message: &str) {
+    let _ = writeln!(io::stderr(), "explain: {message}");
+}
+
+/// Writes to standard output. A reader who has gone away is no fault worth a word.
+fn print(text: &str) -> Result<(), String> {
+    let mut output = io::stdout().lock();
+    match output.write_all(text.as_bytes()).and_then(|()| output.flush()) {
+        Err(error) if error.kind() == ErrorKind::BrokenPipe => Err(String::new()),
+        Err(error) => Err(format!("standard output: {error}")),
+        Ok(()) => Ok(()),
+    }
+}
+
+/// The bytes of a file, and no more of a long one than shows that it is too long.
+fn read(path: &Path) -> Result<Vec<u8>, String> {
+    let limit = torskavel::MAX_FILE as u64 + 1;
+    let mut bytes = Vec::new();
+    let read = File::open(path).and_then(|file| file.take(limit).read_to_end(&mut bytes));
+    read.map(|_| bytes).map_err(|error| format!("{}: {error}", parts::shown(path.as_os_str())))
+}
+
+/// Writes a page, but never over the file that it tells of.
+fn write_page(path: &Path, file: &Path, page: &str) -> Result<(), String> {
+    let name = parts::shown(path.as_os_str());
+    if path.canonicalize().is_ok_and(|page| file.canonicalize().is_ok_and(|file| page == file)) {
+        return Err(format!("{name}: this is the field file, and no page is written over it"));
+    }
+    std::fs::write(path, page).map_err(|error| format!("{name}: {error}"))?;
+    print(&format!("{name}: written\n"))
+}
+
+fn explain(request: &Request) -> Result<End, String> {
+    let walk = Walk::new(request, &read(&request.file)?);
+    let parts = report::parts(&walk, request.all);
+    match &request.page {
+        None => print(&text::written(&parts))?,
+        Some(path) => write_page(path, &request.file, &page::written(&parts))?,
+    }
+    Ok(match walk.outcome {
+        Outcome::Told | Outcome::Agreed(_) => End::Told,
+        Outcome::Refused(_) => End::Refused,
+        Outcome::Differs(_) => {
+            complain("the sums do not come to the library's answer");
+            End::Differs
+        }
+    })
+}
+
+fn main() -> ExitCode {
+    let ended = request::read(std::env::args_os().skip(1)).and_then(|asked| match asked {
+        Asked::Help => print(request::USAGE).map(|()| End::Told),
+        Asked::Explain(request) => explain(&request),
+    });
+    let end = ended.unwrap_or_else(|message| {
+        if !message.is_empty() {
+            complain(&message);
+        }
+        End::Fault
+    });
+    end.status()
+}

@@ -1,0 +1,100 @@
+//! Where a point lies: its cell, the order of the axes, the four weights, the window, and where it reads the
+//! table.
+
+use crate::library::{Block, Net};
+
+pub struct Placing {
+    pub coordinates: [u32; 3],
+    pub divisor: u32,
+    pub cell: [usize; 3],
+    pub remainders: [u32; 3],
+    /// The axes p, r, s, counted from 0.
+    pub axes: [usize; 3],
+    pub weights: [u32; 4],
+}
+
+impl Placing {
+    /// None where the divisor is 0.
+    pub fn of(coordinates: [u32; 3], divisor: u32) -> Option<Placing> {
+        if divisor == 0 {
+            return None;
+        }
+        let remainders = coordinates.map(|x| x % divisor);
+        let mut axes = [0, 1, 2];
+        // A sort that is stable leaves ties by the lower axis.
+        axes.sort_by_key(|&b| std::cmp::Reverse(remainders[b]));
+        let [up, ur, us] = axes.map(|b| remainders[b]);
+        Some(Placing {
+            coordinates,
+            divisor,
+            cell: coordinates.map(|x| (x / divisor) as usize),
+            remainders,
+            axes,
+            weights: [divisor - up, up - ur, ur - us, us],
+        })
+    }
+
+    /// The local place of b0, b1, b2, b3.
+    pub fn local_place(&self, [_, b1, b2, b3]: [usize; 4]) -> [usize; 3] {
+        let [p, r, s] = self.axes;
+        let mut place = [0; 3];
+        place[p] = b1 + b2 + b3;
+        place[r] = b2 + b3;
+        place[s] = b3;
+        place
+    }
+
+    /// The window k−E+1 to k, where it is on the table.
+    pub fn window(&self, net: &Net, block: &Block) -> Option<Window> {
+        let extents = net.extents();
+        let inside = (0..3).all(|b| self.cell[b] + 1 >= extents[b] && self.cell[b] < block.sizes[b]);
+        inside.then(|| Window { low: [0, 1, 2].map(|b| self.cell[b] + 1 - extents[b]), high: self.cell })
+    }
+
+    /// Twice the coordinate less the extent's part, over 2D: where on an axis the point reads the table.
+    pub fn reading(&self, net: &Net, axis: usize) -> i128 {
+        2 * i128::from(self.coordinates[axis]) - net.extents()[axis] as i128 * i128::from(self.divisor)
+    }
+}
+
+#[derive(Clone, Copy)]
+pub struct Window {
+    pub low: [usize; 3],
+    pub high: [usize; 3],
+}
+
+impl Window {
+    pub fn count(&self) -> usize {
+        (0..3).map(|b| self.high[b] - self.low[b] + 1).product()
+    }
+
+    /// From the highest entry down, so that the places in the net go up.
+    pub fn entries(&self) -> Vec<[usize; 3]> {
+        let on = |b: usize| (self.low[b]..=self.high[b]).rev();
+        let rows = on(2).flat_map(|j3| on(1).map(move |j2| (j2, j3)));
+        rows.flat_map(|(j2, j3)| on(0).map(move |j1| [j1, j2, j3])).collect()
+    }
+}
+
+/// The table read on straight lines between the eight entries around the point, correction and uncertainty,
+/// each over (2D)³. None where one of them was never measured.
+pub fn plain_reading(placing: &Placing, net: &Net, block: &Block) -> Option<[i128; 2]> {
+    let whole = 2 * i128::from(placing.divisor);
+    let mut sums = [0, 0];
+    for corner in 0..8 {
+        let (mut entry, mut weight) = ([0; 3], 1);
+        for b in 0..3 {
+            let (steps, rest) =
+                (placing.reading(net, b).div_euclid(whole), placing.reading(net, b).rem_euclid(whole));
+            let above = corner >> b & 1;
+            entry[b] = usize::try_from(steps).ok()? + above;
+            weight *= if above == 1 { rest } else { whole - rest };
+        }
+        if (0..3).any(|b| entry[b] >= block.sizes[b]) || block.is_gap(entry) {
+            return None;
+        }
+        sums[0] += weight * i128::from(block.correction(entry));
+        sums[1] += weight * i128::from(block.uncertainty(entry));
+    }
+    Some(sums)
+}

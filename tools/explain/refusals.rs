@@ -1,0 +1,236 @@
+//! Refusals in words: what is wrong, whom it concerns, and what to do.
+
+use crate::library::{Refusal, place_of};
+use crate::parts::{Part, bracketed, words};
+use crate::placing::Placing;
+use crate::request::Question;
+use crate::sums::factorial;
+use crate::torskavel::{self, MAX_DENOMINATOR, MAX_DIVISOR, refused};
+use crate::walk::{Outcome, Walk};
+
+const FITTER: &str = "the fitter";
+const SURVEYOR: &str = "the surveyor";
+const FIRMWARE: &str = "firmware";
+
+struct Words {
+    wrong: String,
+    concerns: &'static str,
+    to_do: String,
+}
+
+fn words_of(wrong: impl Into<String>, concerns: &'static str, to_do: impl Into<String>) -> Words {
+    Words { wrong: wrong.into(), concerns, to_do: to_do.into() }
+}
+
+pub fn is_one(number: u32) -> bool {
+    matches!(number, refused::ORDER_LENGTH..=refused::NET_DIFFERS | refused::NO_NET..=refused::SHARES)
+}
+
+/// An index of the table as its entry; a unit with another table may have named one that is not there.
+fn entry(walk: &Walk, place: usize) -> String {
+    match walk.head {
+        Some(sizes) if place < sizes.iter().product() => {
+            format!("entry {}", bracketed(&place_of(place, sizes)))
+        }
+        _ => format!("entry number {place}, which this file does not have,"),
+    }
+}
+
+fn net_place(walk: &Walk, place: usize) -> String {
+    match &walk.net {
+        Ok(net) if place < net.places() => format!("net place {}", bracketed(&place_of(place, net.widths()))),
+        _ => format!("net place number {place}, which this order's net does not have"),
+    }
+}
+
+/// The largest divisor that a degree allows.
+fn largest_divisor(degree: usize) -> u32 {
+    let fits = |divisor: &u32| {
+        let denominator = factorial(degree) * i128::from(*divisor).pow(degree as u32);
+        denominator <= i128::from(MAX_DENOMINATOR)
+    };
+    (1..=MAX_DIVISOR).take_while(fits).last().unwrap_or(0)
+}
+
+fn of_order(walk: &Walk, number: u32, place: usize) -> Words {
+    if number == refused::ORDER_LENGTH {
+        let to_do = "shorten the order: with 8 repeats the degree is 9, the highest";
+        return words_of("the order has more than 8 repeats", FITTER, to_do);
+    }
+    let byte = match walk.order_bytes.get(place).map(|byte| byte.wrapping_add(b'0')) {
+        Some(byte) if byte.is_ascii_graphic() => format!("is '{}', and not", char::from(byte)),
+        _ => "is not".to_string(),
+    };
+    let to_do = "write each repeat as 1, 2, 3 or 4 with nothing between, as 132; a controller sends the \
+                 bytes 1 to 4, not the digits' codes 49 to 52";
+    words_of(format!("byte {place} of the order, counted from 0, {byte} 1, 2, 3 or 4"), FITTER, to_do)
+}
+
+fn of_net(walk: &Walk, number: u32, place: usize) -> Words {
+    match number {
+        refused::MULTIPLICITIES => words_of(
+            "a multiplicity is 0, or the four add up to more than 12",
+            FITTER,
+            "hand in the four multiplicities that came with the net",
+        ),
+        refused::NET_LENGTH => {
+            let wants =
+                walk.net.as_ref().map_or(String::new(), |net| format!(", {} for this order", net.places()));
+            let to_do = format!("lend W1 x W2 x W3 places for the net and for each work slice{wants}");
+            words_of(
+                "the memory lent for the net, or for the work on it, is too small for its box",
+                FIRMWARE,
+                to_do,
+            )
+        }
+        refused::NET_DIFFERS => words_of(
+            format!("the net differs from the defined one, first at {}", net_place(walk, place)),
+            FITTER,
+            "copy the net again, or build it by its order",
+        ),
+        refused::NO_NET => {
+            words_of("the unit has no net", FITTER, "build a net by its order, or have one inspected")
+        }
+        _ => words_of(
+            "the net lent for this point is damaged: its shares do not add up",
+            FIRMWARE,
+            "inspect the net (14 tells where it differs) and build it again; the memory may be bad",
+        ),
+    }
+}
+
+fn of_file(walk: &Walk, number: u32, place: usize) -> Words {
+    let again = "it is cut off, or not a field file: copy it again";
+    match number {
+        refused::FILE_HEADER => words_of("the file has under 6 bytes, too few for its sizes", FITTER, again),
+        refused::SIZES => words_of(
+            "a size is 0 or above 64, or there are more than 4096 entries",
+            FITTER,
+            "it is another kind of file, or its first 6 bytes are damaged: copy it again",
+        ),
+        refused::FILE_LENGTH => {
+            let wants = walk.head.map_or(String::new(), |sizes| {
+                format!(": {} want {} bytes", words(&sizes), torskavel::file_length(sizes.map(|n| n as u16)))
+            });
+            let to_do = "it is cut off, or something is appended to it: copy it again";
+            words_of(format!("the file's length does not fit its sizes{wants}"), FITTER, to_do)
+        }
+        refused::UNCERTAINTY => words_of(
+            format!("{} has an uncertainty above 32767", entry(walk, place)),
+            SURVEYOR,
+            "send the file back: that uncertainty was written wrongly",
+        ),
+        refused::NO_BLOCK => words_of("the unit has no table", FITTER, "load the field file"),
+        _ => {
+            let wants = walk
+                .head
+                .map_or(String::new(), |n| format!(", {} for this file", n.iter().product::<usize>()));
+            let to_do = format!("lend n1 x n2 x n3 places for each of the two lists{wants}");
+            words_of("the memory lent for the table is too small", FIRMWARE, to_do)
+        }
+    }
+}
+
+fn of_divisor(walk: &Walk, number: u32) -> Words {
+    let wrong = match (&walk.net, number) {
+        (_, refused::DIVISOR) => "the divisor is 0 or above 4096".to_string(),
+        (Ok(net), _) => format!("the denominator {m}! x D^{m} would pass 2^48", m = net.degree()),
+        (Err(_), _) => "the denominator would pass 2^48".to_string(),
+    };
+    let to_do = walk.net.as_ref().map_or("send a smaller divisor".to_string(), |net| {
+        let degree = net.degree();
+        format!("send a divisor from 1 to {}, the largest for degree {degree}", largest_divisor(degree))
+    });
+    words_of(wrong, FIRMWARE, to_do)
+}
+
+/// What keeps a point outside, axis by axis; without a point, what is inside.
+fn outside(walk: &Walk, placing: Option<&Placing>) -> Vec<String> {
+    let (Ok(net), Ok(block)) = (&walk.net, &walk.block) else { return Vec::new() };
+    let extents = net.extents();
+    let on_axis = |b: usize| {
+        let (extent, size, axis) = (extents[b], block.sizes[b], b + 1);
+        if size < extent {
+            let never = "no point is inside with this order and this table";
+            return Some(format!("axis {axis}: {size} entries are fewer than the extent {extent}: {never}"));
+        }
+        let inside = format!("inside are the cells {} to {}", extent - 1, size - 1);
+        match placing.map(|placing| placing.cell[b]) {
+            None => Some(format!("axis {axis}: {inside}")),
+            Some(cell) if cell + 1 < extent || cell >= size => {
+                Some(format!("axis {axis}: cell {cell}, {inside}"))
+            }
+            Some(_) => None,
+        }
+    };
+    (0..3).filter_map(on_axis).collect()
+}
+
+fn of_point(walk: &Walk, number: u32, place: usize) -> Words {
+    match number {
+        refused::OUTSIDE => {
+            let small = matches!((&walk.net, &walk.block), (Ok(net), Ok(block))
+                if net.extents().iter().zip(block.sizes).any(|(&extent, size)| size < extent));
+            let to_do = "probe within the cells that are inside";
+            let larger = "a table at least as large as the extents, or an order with fewer repeats";
+            words_of("the point is not inside the table", FITTER, if small { larger } else { to_do })
+        }
+        refused::UNMEASURED => {
+            let elsewhere = match &walk.block {
+                Ok(block) if place < block.entries() && !block.is_gap(place_of(place, block.sizes)) => {
+                    "; in this file it is measured, so the unit has another"
+                }
+                _ => "",
+            };
+            let wrong = format!(
+                "{} was never measured, and the point's window has it{elsewhere}",
+                entry(walk, place)
+            );
+            let to_do =
+                "have that entry measured; every entry of the window is wanted, also one without a share";
+            words_of(wrong, SURVEYOR, to_do)
+        }
+        _ => of_divisor(walk, number),
+    }
+}
+
+fn tell(walk: &Walk, Refusal { number, place }: Refusal, parts: &mut Vec<Part>) {
+    let Words { wrong, concerns, to_do } = match number {
+        refused::ORDER_LENGTH | refused::ORDER_BYTE => of_order(walk, number, place),
+        refused::MULTIPLICITIES | refused::NET_LENGTH | refused::NET_DIFFERS => of_net(walk, number, place),
+        refused::NO_NET | refused::SHARES => of_net(walk, number, place),
+        refused::DIVISOR | refused::DENOMINATOR | refused::OUTSIDE | refused::UNMEASURED => {
+            of_point(walk, number, place)
+        }
+        _ => of_file(walk, number, place),
+    };
+    let mut line = |text: String| parts.push(Part::Line(text));
+    line(format!("{number}: {wrong}"));
+    if number == refused::OUTSIDE {
+        outside(walk, walk.placing.as_ref()).into_iter().for_each(&mut line);
+    }
+    line(format!("concerns {concerns}"));
+    line(format!("to do: {to_do}"));
+}
+
+/// Every refusal of the walk: of the order, of the file, or of the point; or the one that was asked about.
+pub fn of(walk: &Walk) -> Vec<Refusal> {
+    let refused = [walk.net.as_ref().err(), walk.block.as_ref().err()].into_iter().flatten().copied();
+    let mut refusals: Vec<_> = refused.collect();
+    match (&walk.outcome, walk.question) {
+        (_, Question::Refusal { number, place }) => refusals.push(Refusal { number, place }),
+        (Outcome::Refused(refusal), _) if refusals.is_empty() => refusals.push(*refusal),
+        _ => {}
+    }
+    refusals
+}
+
+pub fn told(walk: &Walk, parts: &mut Vec<Part>) {
+    let refusals = of(walk);
+    if !refusals.is_empty() {
+        parts.push(Part::Heading("Refused".to_string()));
+    }
+    for refusal in refusals {
+        tell(walk, refusal, parts);
+    }
+}

@@ -1,0 +1,132 @@
+//! The command line.
+
+use crate::parts::shown;
+use std::ffi::{OsStr, OsString};
+use std::os::unix::ffi::OsStrExt;
+use std::path::PathBuf;
+
+pub const USAGE: &str = "\
+usage: explain FILE ORDER X Y Z D [--all] [--page OUT.html]
+       explain FILE ORDER --refused NUMBER PLACE [--page OUT.html]
+
+Tells how the unit comes to its figure at the point X/D, Y/D, Z/D, with the table of a field file and the net
+of an order of repeats, written as digits: 132 is the factory's, '' is the order without a repeat. X, Y, Z and
+D are whole numbers from 0 to 4294967295.
+
+  --all             also lists the local places whose weights multiply to 0, the entries of the window without
+                    a share, and every entry never measured
+  --page OUT.html   writes a page with pictures, to look at, print or send, and not the text
+  --refused NUMBER PLACE
+                    tells what a refusal means that a unit with this file and this order gave
+
+Ends with 0 where the point was answered or the refusal told, 1 where the file, the order or the point is
+refused, 2 where the command line is wrong or something cannot be read or written, 3 where the sums do not
+come to the library's answer.
+";
+
+#[derive(Clone, Copy)]
+pub enum Question {
+    Point { coordinates: [u32; 3], divisor: u32 },
+    Refusal { number: u32, place: usize },
+}
+
+pub struct Request {
+    pub file: PathBuf,
+    /// As typed.
+    pub order: OsString,
+    pub question: Question,
+    pub all: bool,
+    pub page: Option<PathBuf>,
+}
+
+impl Request {
+    /// The digits 1 to 4 as the bytes 1 to 4, and every other byte as one that is none of these.
+    pub fn order_bytes(&self) -> Vec<u8> {
+        self.order.as_bytes().iter().map(|byte| byte.wrapping_sub(b'0')).collect()
+    }
+}
+
+pub enum Asked {
+    Help,
+    Explain(Request),
+}
+
+/// The words that are no option, and the options.
+#[derive(Default)]
+struct Words {
+    plain: Vec<OsString>,
+    all: bool,
+    page: Option<PathBuf>,
+    refused: Option<(OsString, OsString)>,
+    help: bool,
+}
+
+fn words(mut arguments: impl Iterator<Item = OsString>) -> Result<Words, String> {
+    let mut words = Words::default();
+    while let Some(word) = arguments.next() {
+        match word.to_str() {
+            Some("--all") => words.all = true,
+            Some("--help") => words.help = true,
+            Some("--page") => {
+                let path = arguments.next().filter(|path| !path.is_empty());
+                words.page = Some(path.ok_or("--page wants the name of the page")?.into());
+            }
+            Some("--refused") => {
+                let given = arguments.next().zip(arguments.next());
+                words.refused = Some(given.ok_or("--refused wants a number and a place")?);
+            }
+            _ if word.as_bytes().starts_with(b"--") => {
+                return Err(format!("there is no option {}; explain --help lists them", shown(&word)));
+            }
+            _ => words.plain.push(word),
+        }
+    }
+    Ok(words)
+}
+
+fn number(name: &str, word: &OsStr) -> Result<u32, String> {
+    let number = word.to_str().and_then(|word| word.parse().ok());
+    number.ok_or_else(|| {
+        let hint = "a position such as 3.4 is written as 34 with the divisor 10";
+        format!("{name} is '{}', which is no whole number from 0 to {}; {hint}", shown(word), u32::MAX)
+    })
+}
+
+fn point(words: &[OsString]) -> Result<Question, String> {
+    let [x, y, z, divisor] = words else {
+        return Err(format!(
+            "FILE, ORDER and X Y Z D are wanted, six words and not {}; explain --help",
+            words.len() + 2
+        ));
+    };
+    let coordinates = [number("X", x)?, number("Y", y)?, number("Z", z)?];
+    Ok(Question::Point { coordinates, divisor: number("D", divisor)? })
+}
+
+fn refusal((number, place): (OsString, OsString), rest: &[OsString]) -> Result<Question, String> {
+    if !rest.is_empty() {
+        return Err("with --refused no point is wanted; explain --help".to_string());
+    }
+    let number = number.to_str().and_then(|word| word.parse().ok()).filter(|&n| crate::refusals::is_one(n));
+    let number = number.ok_or("--refused wants the number of a refusal: 1 to 14, 21, 22 or 23")?;
+    let place = place.to_str().and_then(|word| word.parse().ok());
+    let place =
+        place.ok_or("--refused wants the place as a whole number; it is 0 where the unit names none")?;
+    Ok(Question::Refusal { number, place })
+}
+
+pub fn read(arguments: impl Iterator<Item = OsString>) -> Result<Asked, String> {
+    let words = words(arguments)?;
+    if words.help {
+        return Ok(Asked::Help);
+    }
+    let [file, order, rest @ ..] = &words.plain[..] else {
+        return Err(format!("FILE and ORDER are wanted\n{USAGE}"));
+    };
+    let question = match words.refused {
+        Some(given) => refusal(given, rest)?,
+        None => point(rest)?,
+    };
+    let (file, order) = (file.into(), order.clone());
+    Ok(Asked::Explain(Request { file, order, question, all: words.all, page: words.page }))
+}

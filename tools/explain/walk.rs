@@ -1,0 +1,95 @@
+//! The whole way from file, order and point to the answer, or to the refusal that ends it.
+
+use crate::library::{self, Block, Figure, Net, Refusal};
+use crate::parts::shown;
+use crate::placing::{Placing, Window};
+use crate::request::{Question, Request};
+use crate::sums::Sums;
+use crate::torskavel::{self, MAX_FILE, Unit};
+
+pub struct Walk {
+    /// The file's name, without its folders.
+    pub file: String,
+    /// None where it is longer than any field file.
+    pub file_length: Option<usize>,
+    /// The sizes that its first bytes name, within their limits or not.
+    pub head: Option<[usize; 3]>,
+    pub order: String,
+    pub order_bytes: Vec<u8>,
+    pub net: Result<Net, Refusal>,
+    pub block: Result<Block, Refusal>,
+    pub question: Question,
+    /// Where there is a divisor, a net and a table.
+    pub placing: Option<Placing>,
+    pub window: Option<Window>,
+    pub sums: Option<Sums>,
+    pub outcome: Outcome,
+}
+
+pub enum Outcome {
+    /// There was no point to answer.
+    Told,
+    Agreed(Figure),
+    Refused(Refusal),
+    /// The sums come to another figure than the library's.
+    Differs(Figure),
+}
+
+fn head(bytes: &[u8]) -> Option<[usize; 3]> {
+    let bytes = bytes.get(..6)?;
+    Some([0, 2, 4].map(|at| u16::from_le_bytes([bytes[at], bytes[at + 1]]).into()))
+}
+
+impl Walk {
+    pub fn new(request: &Request, bytes: &[u8]) -> Walk {
+        let order_bytes = request.order_bytes();
+        let (unit, net) = library::build(torskavel::empty_unit(), &order_bytes);
+        let (unit, block) = library::load(unit, bytes);
+        let name = request.file.file_name().unwrap_or(request.file.as_os_str());
+        let mut walk = Walk {
+            file: shown(name),
+            file_length: Some(bytes.len()).filter(|&length| length <= MAX_FILE),
+            head: head(bytes),
+            order: shown(&request.order),
+            order_bytes,
+            net,
+            block,
+            question: request.question,
+            placing: None,
+            window: None,
+            sums: None,
+            outcome: Outcome::Told,
+        };
+        walk.ask(unit);
+        walk
+    }
+
+    /// Asks the library, and works the point out beside it.
+    fn ask(&mut self, unit: Unit) {
+        let (net, block) = match (&self.net, &self.block) {
+            (Ok(net), Ok(block)) => (net, block),
+            (Err(refusal), _) | (_, Err(refusal)) => {
+                self.outcome = Outcome::Refused(*refusal);
+                return;
+            }
+        };
+        let Question::Point { coordinates, divisor } = self.question else { return };
+        let answer = library::answer(unit, net, block, coordinates, divisor);
+        let refused = answer.as_ref().err().map_or(0, |refusal| refusal.number);
+        self.placing = Placing::of(coordinates, divisor);
+        // 10 and 11 come before the window is looked at, and keep the powers of the divisor small
+        if refused != torskavel::refused::DIVISOR && refused != torskavel::refused::DENOMINATOR {
+            self.window = self.placing.as_ref().and_then(|placing| placing.window(net, block));
+        }
+        if let (Some(placing), Some(window)) = (&self.placing, self.window) {
+            self.sums = Some(Sums::of(net, block, placing, window));
+        }
+        self.outcome = match answer {
+            Err(refusal) => Outcome::Refused(refusal),
+            Ok(figure) if self.sums.as_ref().is_some_and(|sums| sums.figure == figure) => {
+                Outcome::Agreed(figure)
+            }
+            Ok(figure) => Outcome::Differs(figure),
+        };
+    }
+}
