@@ -100,10 +100,6 @@ sum-part i (suc n) f h = ⊎-elim
     (λ (e : i ≡ suc n). rw e (le-refl (sumTo n f + f n)))
     (le-suc-iff .0 h)
 
--- a term is no more than the sum
-pub sum-term : (i n : ℕ) (f : ℕ → ℕ) → i < n → f i ≤ sumTo n f
-sum-term i n f h = let p = sum-part (suc i) n f h in let e = sum-suc i f in omega arith
-
 -- ---- sums over a box
 
 module _ (n1 n2 n3 : ℕ) where
