@@ -88,16 +88,18 @@ module _ (u : Unit) (net : List ℕ) (corrections : List ℤ) (uncertainties : L
   abbrev checks : Checked
   checks = blendChecks u net corrections uncertainties x y z D
 
-  -- what the checks come to, by which of them refuses first
+  -- a refusal for what is lent comes first
   pub lent-refused : {r : Refusal} → lent-checks ≡ Stopped r → checks ≡ Stopped r
   unfolding blendChecks
   lent-refused e = rw e refl
 
+  -- then one for the point
   pub point-refused : {r : Refusal} → lent-checks ≡ Passed → pointChecks u x y z D ≡ Stopped r
       → checks ≡ Stopped r
   unfolding blendChecks
   point-refused e h = rw (e, h) refl
 
+  -- where neither refuses, the window decides
   pub window-decides : lent-checks ≡ Passed → pointChecks u x y z D ≡ Passed
       → checks
       ≡ windowChecks (netOf u) (sizes u) (numberAt net) (correctionAt (sizes u) corrections) (placing x y z D)

@@ -1,37 +1,45 @@
--- Steps from sums to sums: one share stored, four, none.
+-- Steps from sums to sums: one share stored, none, one stretch of places after another.
 use mathlib.Core.List.{List}
 use mathlib.Core.Logic.{_⊎_, _≢_, inl, inr, ⊎-elim}
 use mathlib.Core.Path.{_∙_, _≡_, refl}
-use Prim.Native.Nat.{_*_, _+_, _<_, _≤_, suc, ℕ}
-use native.Mathlib.Nat.{add-zero, le-suc-iff, zero-mul}
+use Prim.Native.Nat.{_+_, _<_, _≤_, suc, zero, ℕ}
+use native.Mathlib.Nat.{add-zero, zero-mul}
 use native.Mathlib.Omega.{arith}
 use lib.IntN.{+ℤ-idr, pos, zero-*ℤ, ℤ}
 use lib.ListN.{length, set}
 use lib.Seq.{getD-set-other, getD-set-same}
 use Rattle.blending.specs.Inner.Sums.{Room, Sums, addSums, entrySums, sums, sumsIn}
-use Rattle.blending.specs.Inner.Window.{Added, FourAdded}
+use Rattle.blending.specs.Inner.Window.{AddedIn}
 
 -- three stores at t add to the sums there and to no others
 pub stored : (shares : List ℕ) (shifts : List ℤ) (spreads : List ℕ) (t a c : ℕ) (b : ℤ) (v : Sums)
     → t < 220 → Room shares shifts spreads → sums a b c ≡ addSums (sumsIn shares shifts spreads t) v
-    → Added t v (sumsIn shares shifts spreads) (sumsIn (set shares t a) (set shifts t b) (set spreads t c))
+    → AddedIn t (t + 1) (λ i. v) (sumsIn shares shifts spreads)
+    (sumsIn (set shares t a) (set shifts t b) (set spreads t c))
 stored shares shifts spreads t a c b v h r e = record {
-  here =
+  inside = λ i l m.
+      let at : i ≡ t = omega arith in
       rw (
+        at,
         getD-set-same shares t a 0 (omega (arith, r .for-shares)),
         getD-set-same shifts t b (pos 0) (omega (arith, r .for-corrections)),
         getD-set-same spreads t c 0 (omega (arith, r .for-uncertainties)),
       ) e;
-  others = λ i n.
-      rw (
-        getD-set-other shares t i a 0 (λ k. n (omega arith)),
-        getD-set-other shifts t i b (pos 0) (λ k. n (omega arith)),
-        getD-set-other spreads t i c 0 (λ k. n (omega arith)),
-      ) refl;
+  before = λ i l. others i (λ k. omega arith);
+  after = λ i l. others i (λ k. omega arith);
 }
+  where
+    others : (i : ℕ) → i ≢ t
+        → sumsIn (set shares t a) (set shifts t b) (set spreads t c) i ≡ sumsIn shares shifts spreads i
+    others i n =
+        rw (
+          getD-set-other shares t i a 0 n,
+          getD-set-other shifts t i b (pos 0) n,
+          getD-set-other spreads t i c 0 n,
+        ) refl
 
 -- a share of 0 adds nothing
-pub add-nothing : (s : Sums) (correction : ℤ) (uncertainty : ℕ)
+add-nothing : (s : Sums) (correction : ℤ) (uncertainty : ℕ)
     → s ≡ addSums s (entrySums 0 correction uncertainty)
 add-nothing s correction uncertainty =
     rw (
@@ -42,90 +50,54 @@ add-nothing s correction uncertainty =
       add-zero (s .uncertainties),
     ) refl
 
--- four steps at neighbours are one step of four
-pub four-steps : (t : ℕ) (a b c d : Sums) (s0 s1 s2 s3 s4 : ℕ → Sums)
-    → Added t a s0 s1 → Added (t + 1) b s1 s2 → Added (t + 2) c s2 s3 → Added (t + 3) d s3 s4
-    → FourAdded t a b c d s0 s4
-four-steps t a b c d s0 s1 s2 s3 s4 h1 h2 h3 h4 = record {
-  first =
-      h4 .others t (λ e. omega arith)
-      ∙ h3 .others t (λ e. omega arith)
-      ∙ h2 .others t (λ e. omega arith)
-      ∙ h1 .here;
-  second =
-      h4 .others (t + 1) (λ e. omega arith)
-      ∙ h3 .others (t + 1) (λ e. omega arith)
-      ∙ rw (h1 .others (t + 1) (λ e. omega arith)) at (h2 .here);
-  third =
-      h4 .others (t + 2) (λ e. omega arith)
-      ∙ rw (h2 .others (t + 2) (λ e. omega arith), h1 .others (t + 2) (λ e. omega arith)) at (h3 .here);
-  fourth =
-      rw (
-        h3 .others (t + 3) (λ e. omega arith),
-        h2 .others (t + 3) (λ e. omega arith),
-        h1 .others (t + 3) (λ e. omega arith),
-      ) at (h4 .here);
-  before = λ i l. unmoved i (λ e. omega arith) (λ e. omega arith) (λ e. omega arith) (λ e. omega arith);
-  after = λ i l. unmoved i (λ e. omega arith) (λ e. omega arith) (λ e. omega arith) (λ e. omega arith);
+-- shares of 0 on a stretch of places add nothing
+pub added-nothing : (a b : ℕ) (share : ℕ → ℕ) (correction : ℤ) (uncertainty : ℕ) (s : ℕ → Sums)
+    → ((i : ℕ) → a ≤ i → i < b → share i ≡ 0)
+    → AddedIn a b (λ i. entrySums (share i) correction uncertainty) s s
+added-nothing a b share correction uncertainty s zero-at = record {
+  inside = λ i l m. rw (zero-at i l m) (add-nothing (s i) correction uncertainty);
+  before = λ i l. refl;
+  after = λ i l. refl;
 }
-  where
-    unmoved : (i : ℕ) → i ≢ t → i ≢ t + 1 → i ≢ t + 2 → i ≢ t + 3 → s4 i ≡ s0 i
-    unmoved i n1 n2 n3 n4 = h4 .others i n4 ∙ h3 .others i n3 ∙ h2 .others i n2 ∙ h1 .others i n1
 
--- four shares of 0 change nothing
-pub four-nothing : (t a b c d : ℕ) (correction : ℤ) (uncertainty : ℕ) (s : ℕ → Sums)
-    → a ≡ 0 → b ≡ 0 → c ≡ 0 → d ≡ 0
-    → FourAdded t (entrySums a correction uncertainty) (entrySums b correction uncertainty)
-    (entrySums c correction uncertainty) (entrySums d correction uncertainty) s s
-four-nothing t a b c d correction uncertainty s ea eb ec ed =
-    rw (ea, eb, ec, ed) (record {
-      first = add-nothing (s t) correction uncertainty;
-      second = add-nothing (s (t + 1)) correction uncertainty;
-      third = add-nothing (s (t + 2)) correction uncertainty;
-      fourth = add-nothing (s (t + 3)) correction uncertainty;
-      before = λ i l. refl;
-      after = λ i l. refl;
-    })
+-- ---- additions in a row
 
--- ---- four places after four
+-- a number is below another or not
+below-or-not : (i n : ℕ) → (i < n) ⊎ (n ≤ i)
+below-or-not i zero = inr (omega arith)
+below-or-not zero (suc n) = inl (omega arith)
+below-or-not (suc i) (suc n) = ⊎-elim (λ l. inl (omega arith)) (λ l. inr (omega arith)) (below-or-not i n)
 
-below-or : (t n : ℕ) → t < suc n → (t < n) ⊎ (t ≡ n)
-below-or t n h = ⊎-elim (λ l. inl l) (λ (e : suc t ≡ suc n). inr (omega arith)) (le-suc-iff .0 h)
+module _ (v : ℕ → Sums) where
+  -- nothing is added to no places
+  pub added-none : (a b : ℕ) (s : ℕ → Sums) → b ≤ a → AddedIn a b v s s
+  added-none a b s h = record {
+    inside = λ i l m. absurd (omega arith);
+    before = λ i l. refl;
+    after = λ i l. refl;
+  }
 
--- a number below n + 4 is below n or one of the next four
-next-four : (P : ℕ → Type 0) (n t : ℕ) → t < n + 4 → (t < n → P t) → P n → P (n + 1) → P (n + 2) → P (n + 3)
-    → P t
-next-four P n t h below p0 p1 p2 p3 = ⊎-elim
-    (λ (l3 : t < n + 3). ⊎-elim
-    (λ (l2 : t < n + 2). ⊎-elim
-    (λ (l1 : t < n + 1). ⊎-elim below (λ (e : t ≡ n). rw e p0) (below-or t n (omega arith)))
-    (λ (e : t ≡ n + 1). rw e p1) (below-or t (n + 1) (omega arith)))
-    (λ (e : t ≡ n + 2). rw e p2) (below-or t (n + 2) (omega arith)))
-    (λ (e : t ≡ n + 3). rw e p3) (below-or t (n + 3) (omega arith))
+  -- one stretch and the next are one
+  pub added-on : (a b c : ℕ) (s0 s1 s2 : ℕ → Sums) → a ≤ b → b ≤ c → AddedIn a b v s0 s1 → AddedIn b c v s1 s2
+      → AddedIn a c v s0 s2
+  added-on a b c s0 s1 s2 ab bc h k = record {
+    inside = λ i l m.
+        ⊎-elim
+        (λ (n : i < b). k .before i n ∙ h .inside i l n)
+        (λ (n : b ≤ i). rw (h .after i n) at (k .inside i n m))
+        (below-or-not i b);
+    before = λ i l. k .before i (omega arith) ∙ h .before i l;
+    after = λ i l. k .after i l ∙ h .after i (omega arith);
+  }
 
--- the places before 4×g have had their share v added, those after not yet
-pub record AddedTo (g : ℕ) (v start now : ℕ → Sums) : Type 0 where
-  pub done : (t : ℕ) → t < 4 * g → now t ≡ addSums (start t) (v t)
-  pub left : (t : ℕ) → 4 * g ≤ t → now t ≡ start t
-
--- none yet
-pub added-none : (v start : ℕ → Sums) → AddedTo 0 v start start
-added-none v start = record { done = λ t l. absurd (omega arith); left = λ t l. refl }
-
--- a step of four more
-pub added-four : (g : ℕ) (v start old new : ℕ → Sums) → AddedTo g v start old
-    → FourAdded (4 * g) (v (4 * g)) (v (4 * g + 1)) (v (4 * g + 2)) (v (4 * g + 3)) old new
-    → AddedTo (g + 1) v start new
-added-four g v start old new h f = record {
-  done = λ t l.
-      next-four (λ t. new t ≡ addSums (start t) (v t)) (4 * g) t (omega arith)
-      (λ k. f .before t k ∙ h .done t k)
-      (rw (h .left (4 * g) (omega arith)) at (f .first))
-      (rw (h .left (4 * g + 1) (omega arith)) at (f .second))
-      (rw (h .left (4 * g + 2) (omega arith)) at (f .third))
-      (rw (h .left (4 * g + 3) (omega arith)) at (f .fourth));
-  left = λ t l. f .after t (omega arith) ∙ h .left t (omega arith);
-}
+  -- only what is added inside the stretch counts
+  pub added-cong : (a b : ℕ) (w s0 s1 : ℕ → Sums) → ((i : ℕ) → a ≤ i → i < b → w i ≡ v i)
+      → AddedIn a b w s0 s1 → AddedIn a b v s0 s1
+  added-cong a b w s0 s1 e h = record {
+    inside = λ i l m. rw (e i l m) at (h .inside i l m);
+    before = h .before;
+    after = h .after;
+  }
 
 -- ---- lengths
 

@@ -12,7 +12,7 @@ use Rattle.sums.proofs.Sum.{sum-next, sum-zero}
 use Rattle.sums.proofs.SumZ.{sumZ-next, sumZ-zero}
 use Rattle.blending.specs.Inner.Sums.{Bounded, Small, Sums, addSums, entrySums, noSums, sumsTo}
 
--- no turn, and one turn more
+-- before the first turn the sums are those of nothing
 pub sums-none : (f : ℕ → Sums) → noSums ≡ sumsTo 0 f
 unfolding sumsTo
 sums-none f =
@@ -22,6 +22,7 @@ sums-none f =
       sum-zero (λ i. f i .uncertainties),
     ) refl
 
+-- a turn adds its term
 pub sums-next : (f : ℕ → Sums) (i : ℕ) {t s : Sums} → t ≡ sumsTo i f → s ≡ f i
     → addSums t s ≡ sumsTo (i + 1) f
 unfolding sumsTo
@@ -34,10 +35,11 @@ sums-next f i e d =
       sum-next i (λ j. f j .uncertainties),
     ) refl
 
--- nothing added, and two additions in a row
+-- sums of nothing add nothing
 pub add-none : (from : Sums) → from ≡ addSums from noSums
 add-none from = rw (add-zero (from .shares), +ℤ-idr (from .corrections), add-zero (from .uncertainties)) refl
 
+-- two additions in a row are one
 pub add-assoc-sums : (a b c : Sums) → addSums (addSums a b) c ≡ addSums a (addSums b c)
 add-assoc-sums a b c =
     rw (
@@ -48,7 +50,7 @@ add-assoc-sums a b c =
 
 -- ---- sizes
 
--- those of no entry, of two sets of entries, and of fewer than n
+-- sums of nothing are those of no entry
 pub small-none : Small 0 noSums
 small-none = record {
   shares-small = omega arith;
@@ -56,6 +58,7 @@ small-none = record {
   uncertainties-small = omega arith;
 }
 
+-- sums of two sets of entries are those of both
 pub small-add : {a b : ℕ} {s t : Sums} (n : ℕ) → Small a s → Small b t → a + b ≤ n → Small n (addSums s t)
 small-add {s = s} {t = t} n h k l =
     let z = abs-add (s .corrections) (t .corrections) in
@@ -65,6 +68,7 @@ small-add {s = s} {t = t} n h k l =
       uncertainties-small = omega arith;
     }
 
+-- those of some entries are no larger than those of more
 pub small-more : {a : ℕ} {s : Sums} (n : ℕ) → Small a s → a ≤ n → Small n s
 small-more n h l = record {
   shares-small = omega arith;
@@ -108,10 +112,11 @@ bounded-entry share correction uncertainty hc hu =
     let u : share * uncertainty ≤ share * 65535 = mul-le-mul-left share (omega arith) in
     record { of-corrections = omega arith; of-uncertainties = omega arith }
 
--- bounded sums add up to bounded ones
+-- sums of nothing are bounded
 pub bounded-none : Bounded noSums
 bounded-none = record { of-corrections = omega arith; of-uncertainties = omega arith }
 
+-- bounded sums add up to bounded ones
 pub bounded-add : (s t : Sums) → Bounded s → Bounded t → Bounded (addSums s t)
 bounded-add s t h k =
     let z = abs-add (s .corrections) (t .corrections) in

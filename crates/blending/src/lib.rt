@@ -21,6 +21,7 @@ use placing::PlacingAnswer;
 use unit::Checked;
 use unit::Unit;
 
+mod entry;
 mod frame;
 pub mod local;
 mod window;
@@ -40,24 +41,24 @@ fn adds_up(shares: &[u64; 220], count: usize, full: u64) -> bool
     true
 }
 
-// Writes the first of the blended numbers to the caller's arrays.
+// Writes the first of the blended corrections and uncertainties to the caller's arrays.
 fn hand_over(
     count: usize,
-    made: &[i64; 220],
-    spread: &[u64; 220],
+    corrections: &[i64; 220],
+    uncertainties: &[u64; 220],
     shifts: &mut [i64],
     spreads: &mut [u64],
 )
     requires { ⌜ (count ≤ 220) × (220 ≤ length (now shifts)) × (220 ≤ length (now spreads)) ⌝ }
     ensures { λ r. ⌜ now (shifts .exit)
-        ≡ filled (signedAt (now (made .entry))) count (now (shifts .entry)) ⌝ }
+        ≡ filled (signedAt (now (corrections .entry))) count (now (shifts .entry)) ⌝ }
     ensures { λ r. ⌜ now (spreads .exit)
-        ≡ filled (numberAt (now (spread .entry))) count (now (spreads .entry)) ⌝ }
+        ≡ filled (numberAt (now (uncertainties .entry))) count (now (spreads .entry)) ⌝ }
 {
     let mut t = 0;
     while t < count {
-        shifts[t] = made[t];
-        spreads[t] = spread[t];
+        shifts[t] = corrections[t];
+        spreads[t] = uncertainties[t];
         t += 1;
     }
 }

@@ -1,17 +1,16 @@
-// The window of a point, entry by entry in the order of the block's index: each entry's shares at all
-// local places are added up, plain and times its correction and uncertainty, up to the first gap.
+// The window of a point, entry by entry in the order of the block's index, up to the first gap.
 ghost use mathlib.Core.Path.{_≡_};
-ghost use Prim.Native.Nat.{ℕ, _+_, _*_, _<_, _≤_};
+ghost use Prim.Native.Nat.{ℕ, _*_, _<_, _≤_};
 ghost use lib.ListN.{length};
 ghost use Rattle.sums.specs.Search.{nowhere};
 ghost use Rattle.blending.specs.Blend.{numberAt, signedAt};
 ghost use Rattle.blending.specs.Gaps.{isGap};
 ghost use Rattle.blending.specs.LocalPlaces.{localAt};
 ghost use Rattle.blending.specs.Inner.Frame.{FrameLimits, entryAt, offsetOf, shareAt};
-ghost use Rattle.blending.specs.Inner.Sums.{Bounded, Room, Small, addSums, entrySums, noSums, sumsIn};
-ghost use Rattle.blending.specs.Inner.Window.{Added, EntryIn, FourAdded, InWindow};
-ghost use Rattle.blending.specs.Inner.Window.{Within, positionAfter, windowSums};
+ghost use Rattle.blending.specs.Inner.Sums.{Bounded, Room, noSums, sumsIn};
+ghost use Rattle.blending.specs.Inner.Window.{InWindow, Within, positionAfter, windowSums};
 ghost use Rattle.blending.specs.Inner.Search.{gapOf, windowGaps};
+use crate::entry;
 use crate::frame::Frame;
 use crate::local::LocalPlace;
 
@@ -88,99 +87,6 @@ pub(crate) fn offsets_of(f: Frame) -> [usize; 220]
     offsets
 }
 
-// Adds one share to the sums at a local place.
-fn add_share(
-    t: usize,
-    share: u32,
-    correction: i16,
-    uncertainty: u16,
-    shares: &mut [u64],
-    shifts: &mut [i64],
-    spreads: &mut [u64],
-)
-    requires { ⌜ (t < 220) × Room (now shares) (now shifts) (now spreads)
-        × Small 4095 (sumsIn (now shares) (now shifts) (now spreads) t) ⌝ }
-    ensures { λ r. ⌜ Added t (entrySums share correction uncertainty)
-        (sumsIn (now (shares .entry)) (now (shifts .entry)) (now (spreads .entry)))
-        (sumsIn (now (shares .exit)) (now (shifts .exit)) (now (spreads .exit))) ⌝ }
-{
-    shares[t] = shares[t] + share as u64;
-    shifts[t] = shifts[t] + correction as i64 * share as i64;
-    spreads[t] = spreads[t] + share as u64 * uncertainty as u64;
-}
-
-// Adds the shares at four local places, most often all of them 0.
-fn add_four(
-    t: usize,
-    a: u32,
-    b: u32,
-    c: u32,
-    d: u32,
-    correction: i16,
-    uncertainty: u16,
-    shares: &mut [u64],
-    shifts: &mut [i64],
-    spreads: &mut [u64],
-)
-    requires { ⌜ (t < 217) × Room (now shares) (now shifts) (now spreads)
-        × ((i : ℕ) → t ≤ i → i < t + 4 → Small 4095 (sumsIn (now shares) (now shifts) (now spreads) i)) ⌝ }
-    ensures { λ r. ⌜ FourAdded t (entrySums a correction uncertainty) (entrySums b correction uncertainty)
-        (entrySums c correction uncertainty) (entrySums d correction uncertainty)
-        (sumsIn (now (shares .entry)) (now (shifts .entry)) (now (spreads .entry)))
-        (sumsIn (now (shares .exit)) (now (shifts .exit)) (now (spreads .exit))) ⌝ }
-{
-    if a as u64 + b as u64 + c as u64 + d as u64 == 0 {
-        return;
-    }
-    add_share(t, a, correction, uncertainty, shares, shifts, spreads);
-    add_share(t + 1, b, correction, uncertainty, shares, shifts, spreads);
-    add_share(t + 2, c, correction, uncertainty, shares, shifts, spreads);
-    add_share(t + 3, d, correction, uncertainty, shares, shifts, spreads);
-}
-
-// Adds an entry's shares, the first of which stands at an index of the net, four at a time.
-fn add_entry(
-    net: &[u32],
-    offsets: &[usize; 220],
-    groups: usize,
-    share: usize,
-    correction: i16,
-    uncertainty: u16,
-    shares: &mut [u64],
-    shifts: &mut [i64],
-    spreads: &mut [u64],
-)
-    requires { ⌜ EntryIn (length (now net)) (numberAt (now offsets)) groups share
-        (sumsIn (now shares) (now shifts) (now spreads)) × Room (now shares) (now shifts) (now spreads) ⌝ }
-    ensures { λ r. ⌜ ((t : ℕ) → t < 4 * groups
-        → sumsIn (now (shares .exit)) (now (shifts .exit)) (now (spreads .exit)) t
-        ≡ addSums (sumsIn (now (shares .entry)) (now (shifts .entry)) (now (spreads .entry)) t)
-        (entrySums (numberAt (now (net .entry)) (share + numberAt (now (offsets .entry)) t))
-        correction uncertainty)) ⌝ }
-{
-    let mut g = 0;
-    while g < groups {
-        let t = 4 * g;
-        let a = net[share + offsets[t]];
-        let b = net[share + offsets[t + 1]];
-        let c = net[share + offsets[t + 2]];
-        let d = net[share + offsets[t + 3]];
-        add_four(
-            t,
-            a,
-            b,
-            c,
-            d,
-            correction,
-            uncertainty,
-            shares,
-            shifts,
-            spreads,
-        );
-        g += 1;
-    }
-}
-
 // Whether a correction means 'never measured'.
 fn is_gap(correction: i16) -> bool
     ensures { λ r. ⌜ r ≡ isGap correction ⌝ }
@@ -224,7 +130,7 @@ pub(crate) fn add_window(
         if is_gap(correction) {
             return Gap::At(entry);
         }
-        add_entry(
+        entry::add_entry(
             net,
             offsets,
             groups,

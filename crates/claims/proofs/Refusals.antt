@@ -26,16 +26,17 @@ use Rattle.field.specs.File.{entryCount, fileLength, headerLength, size1, size2
 use Rattle.field.specs.Load.{layoutChecks, limitCheck, loadAnswer, loadChecks}
 use Rattle.placing.proofs.Placed.{refused-by}
 use Rattle.placing.specs.Place.{lentChecks, limit, placeAnswer, pointChecks, scale, unitChecks}
-use Rattle.placing.specs.Placing.{cells, inside, placingCell, sizes}
+use Rattle.placing.specs.Placing.{cells, inside, placing, placingCell, sizes}
 use Rattle.placing.specs.declared.Placing.{Placing}
-use Rattle.blending.specs.Blend.{windowChecks}
+use Rattle.blending.specs.Blend.{blendAnswer, blendChecks, correctionAt, numberAt, windowChecks}
 use Rattle.point.specs.Answer.{pointAnswer, valueAnswer}
 use Rattle.blending.specs.Blending.{addsUp}
 use Rattle.blending.specs.Gaps.{firstGap}
 use Rattle.point.specs.declared.PointAnswer.{PointAnswer}
 use Rattle.point.specs.declared.PointAnswer.the-variants.{Refused}
 use Rattle.claims.specs.Demands.{NotZero, Numbers}
-use Rattle.claims.specs.Refusals.{by-build, by-inspection, by-load, by-placing, by-point, listed}
+use Rattle.claims.specs.Refusals.{by-blending, by-build, by-inspection, by-load, by-placing, by-point}
+use Rattle.claims.specs.Refusals.{listed}
 
 -- ---- checks in a row
 
@@ -114,6 +115,23 @@ point-numbered u x y z D =
     (if-numbered 11 (ltb limit (scale (degree (netOf u)) D)) _ refl
     (if-numbered 12 (not (inside (netOf u) (sizes u) (cells x y z D))) Passed refl tt))
 
+window-numbered : (v : Multiplicities) (n : Axis → ℕ) (net : ℕ → ℕ) (corrections : ℕ → ℕ → ℕ → ℤ)
+    (q : Placing) → Numbered (windowChecks v n net corrections q)
+unfolding windowChecks
+window-numbered v n net corrections q =
+    at-numbered 13 (firstGap v n corrections (placingCell q)) _ refl
+    (if-numbered 23 (not (addsUp v net q)) Passed refl tt)
+
+blend-numbered : (u : Unit) (net : List ℕ) (corrections : List ℤ) (uncertainties : List ℕ) (x y z D : ℕ)
+    → Numbered (blendChecks u net corrections uncertainties x y z D)
+unfolding blendChecks
+blend-numbered u net corrections uncertainties x y z D =
+    then-numbered (lentChecks u (length net) (length corrections) (length uncertainties)) _
+    (lent-numbered u (length net) (length corrections) (length uncertainties))
+    (then-numbered (pointChecks u x y z D) _ (point-numbered u x y z D)
+    (window-numbered (netOf u) (sizes u) (numberAt net) (correctionAt (sizes u) corrections)
+    (placing x y z D)))
+
 -- ---- the answers
 
 stopped-numbered : {k : Checked} {r : Refusal} → Numbered k → k ≡ Stopped r → listed (r .number) ≡ true
@@ -129,16 +147,14 @@ point-refused (Stopped s) made {r} l m h = let e : Stopped s ≡ Stopped r = cc 
 value-numbered : (v : Multiplicities) (n : Axis → ℕ) (net : ℕ → ℕ) (corrections : ℕ → ℕ → ℕ → ℤ)
     (uncertainties : ℕ → ℕ → ℕ → ℕ) (q : Placing) (D : ℕ) {r : Refusal}
     → valueAnswer v n net corrections uncertainties q D ≡ Refused r → listed (r .number) ≡ true
-unfolding valueAnswer windowChecks
+unfolding valueAnswer
 value-numbered v n net corrections uncertainties q D h =
-    point-refused (windowChecks v n net corrections q) _
-    (at-numbered 13 (firstGap v n corrections (placingCell q)) _ refl
-    (if-numbered 23 (not (addsUp v net q)) Passed refl tt))
+    point-refused (windowChecks v n net corrections q) _ (window-numbered v n net corrections q)
     (λ e. let z : _≡_ {A = ℕ} 0 1 = cc in absurd (omega arith))
     h
 
 pub numbers : Numbers
-unfolding buildAnswer inspectAnswer loadAnswer placeAnswer pointAnswer
+unfolding buildAnswer inspectAnswer loadAnswer placeAnswer blendAnswer pointAnswer
 numbers r (by-build u order netLength workLength h) =
     stopped-numbered (build-numbered order netLength workLength)
     (unit-refused (buildChecks order netLength workLength) _ h)
@@ -152,6 +168,9 @@ numbers r (by-placing u x y z D h) =
     stopped-numbered
     (then-numbered (unitChecks u) (pointChecks u x y z D) (unit-numbered u) (point-numbered u x y z D))
     (refused-by (andThen (unitChecks u) (pointChecks u x y z D)) _ h)
+numbers r (by-blending u net corrections uncertainties x y z D h) =
+    stopped-numbered (blend-numbered u net corrections uncertainties x y z D)
+    (refused-by (blendChecks u net corrections uncertainties x y z D) _ h)
 numbers r (by-point u net corrections uncertainties x y z D h) =
     let k = lentChecks u (length net) (length corrections) (length uncertainties) in
     point-refused (andThen k (pointChecks u x y z D)) _

@@ -12,6 +12,7 @@ use Rattle.net.specs.Build.{buildAnswer}
 use Rattle.inspection.specs.Inspect.{inspectAnswer}
 use Rattle.field.specs.Load.{loadAnswer}
 use Rattle.placing.specs.Place.{placeAnswer}
+use Rattle.blending.specs.Blend.{blendAnswer}
 use Rattle.point.specs.Answer.{pointAnswer}
 use Rattle.placing.specs.declared.PlacingAnswer.the-variants as placings
 use Rattle.point.specs.declared.PointAnswer.the-variants as points
@@ -30,5 +31,7 @@ pub data Met (r : Refusal) : Type 0 where
   by-load : (u : Unit) (file : List ℕ) (corrections : List ℤ) (uncertainties : List ℕ)
       → loadAnswer u file corrections uncertainties ≡ units.Refused r → Met r
   by-placing : (u : Unit) (x y z D : ℕ) → placeAnswer u x y z D ≡ placings.Refused r → Met r
+  by-blending : (u : Unit) (net : List ℕ) (corrections : List ℤ) (uncertainties : List ℕ) (x y z D : ℕ)
+      → blendAnswer u net corrections uncertainties x y z D ≡ placings.Refused r → Met r
   by-point : (u : Unit) (net : List ℕ) (corrections : List ℤ) (uncertainties : List ℕ) (x y z D : ℕ)
       → pointAnswer u net corrections uncertainties x y z D ≡ points.Refused r → Met r

@@ -23,8 +23,8 @@ unfoldable pub encoding : ℕ → ℕ → ℕ → List ℤ → List ℕ → List
 encoding n1 n2 n3 corrections uncertainties =
     littleEndian (n1 ∷ n2 ∷ n3 ∷ map bits corrections ++ uncertainties)
 
--- Sections 4.3, 8.1, 8.3: allowed sizes, n entries in each list, corrections of 16 bits (`mag` of −(k + 1) is
--- k) and uncertainties that 8 does not refuse
+-- Sections 4.3, 8.1 to 8.3: allowed sizes, n entries in each list, corrections of 16 bits (`mag` of −(k + 1)
+-- is k) and uncertainties that 8 does not refuse
 pub record WithinLimits (n1 n2 n3 : ℕ) (corrections : List ℤ) (uncertainties : List ℕ) : Type 0 where
   pub sizes : sizesAllowed n1 n2 n3 ≡ true
   pub count1 : length corrections ≡ n1 * n2 * n3

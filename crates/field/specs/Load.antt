@@ -1,4 +1,4 @@
--- What a load answers and leaves in its slices: Sections 8.3, 8.4.
+-- What a load answers and leaves in its slices: Sections 5.3, 5.4, 8.3, 8.4.
 use mathlib.Core.Bool.{not}
 use mathlib.Core.List.{List}
 use Prim.Native.Nat.{ℕ}
@@ -17,7 +17,7 @@ use Rattle.unit.specs.declared.UnitAnswer.the-variants.{Changed, Refused}
 use Rattle.field.specs.File.{correction, entryCount, fileLength, headerLength, uncertainty}
 use Rattle.field.specs.File.{size1, size2, size3}
 
--- Section 8.3: 5, 6 and 7, on the file's sizes and its length
+-- Section 5.3: 5, 6 and 7, on the file's sizes and its length
 unfoldable pub layoutChecks : List ℕ → Checked
 layoutChecks file =
     refuseIf 5 (ltb (length file) headerLength)
@@ -28,7 +28,7 @@ layoutChecks file =
 abbrev pub limitCheck : ℕ → (ℕ → ℕ) → Checked
 limitCheck n uncertaintyOf = refuseAt 8 (first n (λ i. ltb 32767 (uncertaintyOf i))) Passed
 
--- Section 8.3: the checks 5 to 9 in this order, for slices of these lengths
+-- Section 5.4: the checks 5 to 9 in this order, for slices of these lengths
 unfoldable pub loadChecks : List ℕ → ℕ → ℕ → Checked
 loadChecks file correctionsLength uncertaintiesLength =
     andThen (layoutChecks file)

@@ -8,10 +8,27 @@ use native.Mathlib.Omega.{arith}
 use borrow.Author.Tests.{leb-false, leb-true}
 use lib.Dec.{leb}
 use Rattle.spline.specs.Place.{Axis, a1, a2, a3}
-use Rattle.placing.specs.Inner.Ranking.{Axes, o123, o132, o213, o231, o312, o321, ranked, weightSum}
+use Rattle.placing.specs.Inner.Ranking.{Axes, inOrder, o123, o132, o213, o231, o312, o321}
+use Rattle.placing.specs.Inner.Ranking.{ranked, ranking, thirdAmong, weightSum}
 use Rattle.placing.specs.Placing.{AxisRanks, axisNumber, axisRanks, placing, rankAxes, remainders}
 use Rattle.placing.specs.Placing.{withThird}
 use Rattle.placing.specs.declared.Ranking.{Ranking}
+
+-- axis 3 among two others is ranked as the definition has it
+pub third-ranked : (u : Axis → ℕ) (a b : Axis)
+    → thirdAmong (axisNumber a) (u a) (axisNumber b) (u b) (u a3) ≡ ranking u (withThird u a b)
+unfolding thirdAmong withThird
+third-ranked u a b = go (leb (u a3) (u b)) (leb (u a3) (u a))
+  where
+    go : (s t : Bool)
+        → cond s (inOrder (axisNumber a) (u a) (axisNumber b) (u b) 3 (u a3))
+        (cond t
+        (inOrder (axisNumber a) (u a) 3 (u a3) (axisNumber b) (u b))
+        (inOrder 3 (u a3) (axisNumber a) (u a) (axisNumber b) (u b)))
+        ≡ ranking u (cond s (axisRanks a b a3) (cond t (axisRanks a a3 b) (axisRanks a3 a b)))
+    go true t = refl
+    go false true = refl
+    go false false = refl
 
 -- the six orders, each with what the tests say
 rank-cases : (u : Axis → ℕ) (P : AxisRanks → Type 0)

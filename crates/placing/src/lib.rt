@@ -6,7 +6,7 @@ ghost use Prim.Native.Nat.{_+_, _≤_};
 ghost use lib.Dec.{leb};
 ghost use Rattle.unit.specs.Unit.{netOf, hasNet, hasBlock};
 ghost use Rattle.placing.specs.Placing.{inside, insideOn, onAxes, placing, sizes};
-ghost use Rattle.placing.specs.Inner.Ranking.{ranked};
+ghost use Rattle.placing.specs.Inner.Ranking.{ranked, thirdAmong};
 ghost use Rattle.placing.specs.Place.{scale, limit, lentChecks, unitChecks, pointChecks};
 ghost use Rattle.placing.specs.Place.{placeAnswer};
 use shape::Counts;
@@ -47,68 +47,48 @@ struct Ranking {
     us: u32,
 }
 
+// Axis 3 among two axes in order, a first, each given by its number and its remainder.
+fn with_third(a: u8, ua: u32, b: u8, ub: u32, u3: u32) -> Ranking
+    ensures { λ t. ⌜ t ≡ thirdAmong a ua b ub u3 ⌝ }
+{
+    if u3 <= ub {
+        return Ranking {
+            p: a,
+            r: b,
+            s: 3,
+            up: ua,
+            ur: ub,
+            us: u3,
+        };
+    }
+    if u3 <= ua {
+        return Ranking {
+            p: a,
+            r: 3,
+            s: b,
+            up: ua,
+            ur: u3,
+            us: ub,
+        };
+    }
+    Ranking {
+        p: 3,
+        r: a,
+        s: b,
+        up: u3,
+        ur: ua,
+        us: ub,
+    }
+}
+
 // The axes with the largest remainder first, ties by the lower axis.
 fn rank(u1: u32, u2: u32, u3: u32) -> Ranking
     ensures { λ t. ⌜ t ≡ ranked u1 u2 u3 ⌝ }
 {
     if u2 <= u1 {
-        if u3 <= u2 {
-            return Ranking {
-                p: 1,
-                r: 2,
-                s: 3,
-                up: u1,
-                ur: u2,
-                us: u3,
-            };
-        }
-        if u3 <= u1 {
-            return Ranking {
-                p: 1,
-                r: 3,
-                s: 2,
-                up: u1,
-                ur: u3,
-                us: u2,
-            };
-        }
-        return Ranking {
-            p: 3,
-            r: 1,
-            s: 2,
-            up: u3,
-            ur: u1,
-            us: u2,
-        };
+        return with_third(1, u1, 2, u2, u3);
     }
-    if u3 <= u1 {
-        return Ranking {
-            p: 2,
-            r: 1,
-            s: 3,
-            up: u2,
-            ur: u1,
-            us: u3,
-        };
-    }
-    if u3 <= u2 {
-        return Ranking {
-            p: 2,
-            r: 3,
-            s: 1,
-            up: u2,
-            ur: u3,
-            us: u1,
-        };
-    }
-    Ranking {
-        p: 3,
-        r: 2,
-        s: 1,
-        up: u3,
-        ur: u2,
-        us: u1,
-    }
+    with_third(2, u2, 1, u1, u3)
 }
 
 // The placing of a point over a divisor that is not 0.

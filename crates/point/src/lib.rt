@@ -10,7 +10,6 @@ use unit::Unit;
 mod bernstein;
 
 // The exact fraction of an answered point: N and U over m!×D^m, unreduced.
-#[repr(C)]
 pub struct Fraction {
     pub numerator: i64,
     pub uncertainty: u64,

@@ -41,7 +41,7 @@ unfoldable pub built : List Direction → ℕ → Net → Net
 built [] g G = G
 built (d ∷ ds) g G = built ds (suc g) (stepped d g G)
 
--- Section 2.1: the direction of a byte 1 to 4; other bytes are refused before it is asked
+-- Section 2.1: the direction of a byte 1 to 4; every other byte counts as 4, and a build refuses it
 abbrev pub direction : ℕ → Direction
 direction zero = diagonal
 direction (suc zero) = along a1

@@ -3,10 +3,9 @@
 ghost use mathlib.Core.Path.{_≡_};
 ghost use Rattle.unit.specs.Unit.{emptyUnit, hasBlock, hasNet, withBlock, withNet};
 ghost use Rattle.unit.specs.Unit.{sizeAllowed, sizesAllowed};
-ghost use Rattle.unit.specs.Checks.{refusal, blockRoomCheck};
+ghost use Rattle.unit.specs.Checks.{andThen, refusal, blockRoomCheck};
 ghost use Rattle.spline.specs.Multiplicities.{multiplicities, allowed};
 
-#[repr(C)]
 pub struct Unit {
     pub has_net: bool,
     pub v1: u8,
@@ -20,7 +19,6 @@ pub struct Unit {
 }
 
 // A refusal: its number, and the place that it speaks of, 0 where it speaks of none.
-#[repr(C)]
 pub struct Refusal {
     pub number: u32,
     pub place: usize,
@@ -43,6 +41,16 @@ impl Checked {
         ensures { λ r. ⌜ r ≡ Checked.Stopped (refusal number place) ⌝ }
     {
         Checked::Stopped(Refusal { number, place })
+    }
+
+    // These checks and, where they have passed, further ones.
+    pub fn and_then(self, next: Checked) -> Self
+        ensures { λ r. ⌜ r ≡ andThen self next ⌝ }
+    {
+        match self {
+            Checked::Passed => next,
+            Checked::Stopped(refusal) => Checked::Stopped(refusal),
+        }
     }
 }
 

@@ -76,7 +76,9 @@ fn good() -> Vec<Block> {
 /// Files that 5 or 6 refuses: too few bytes, and sizes out of limits, with lengths that fit and that do not.
 fn without_sizes() -> Vec<Vec<u8>> {
     let mut files = vec![vec![], vec![1], vec![1, 0, 1, 0, 1], vec![0; 5]];
-    for n in [[0, 1, 1], [1, 0, 1], [1, 1, 0], [65, 1, 1], [1, 65, 1], [1, 1, 256], [64, 64, 2], [65535; 3]] {
+    for n in
+        [[0, 1, 1], [1, 0, 1], [1, 1, 0], [65, 1, 1], [1, 65, 1], [257, 1, 1], [1, 1, 256], [64, 64, 2], [65535; 3]]
+    {
         let header: Vec<u8> = n.into_iter().flat_map(u16::to_le_bytes).collect();
         files.push([&header[..], &[0; 4]].concat());
         files.push(header);

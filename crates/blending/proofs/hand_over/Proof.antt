@@ -13,13 +13,13 @@ use Rattle.sums.specs.Fill.{filled}
 use Rattle.blending.specs.Blend.{numberAt, signedAt}
 
 abbrev Inv-loop : tie.InvT-loop
-Inv-loop count made spread shifts₀ spreads₀ t₀ shifts spreads t =
+Inv-loop count corrections uncertainties shifts₀ spreads₀ t₀ shifts spreads t =
     (t ≤ count)
-    × (shifts ≡ filled (signedAt made) t shifts₀)
-    × (spreads ≡ filled (numberAt spread) t spreads₀)
+    × (shifts ≡ filled (signedAt corrections) t shifts₀)
+    × (spreads ≡ filled (numberAt uncertainties) t spreads₀)
 
 abbrev μ-loop : tie.MeasureT-loop
-μ-loop count made spread shifts₀ spreads₀ t₀ shifts spreads t = count - t
+μ-loop count corrections uncertainties shifts₀ spreads₀ t₀ shifts spreads t = count - t
 
 -- writing keeps the lengths
 module _ (c : tie.At-loop Inv-loop μ-loop) where
@@ -32,8 +32,8 @@ module _ (c : tie.At-loop Inv-loop μ-loop) where
 loop-holds : tie.Need-loop-holds Inv-loop μ-loop
 loop-holds c = (
   omega arith,
-  sym (fill-none (signedAt (c .args .made .now)) _),
-  sym (fill-none (numberAt (c .args .spread .now)) _),
+  sym (fill-none (signedAt (c .args .corrections .now)) _),
+  sym (fill-none (numberAt (c .args .uncertainties .now)) _),
 )
 
 mul-shifts : tie.Need-mul-shifts Inv-loop μ-loop
@@ -70,7 +70,7 @@ loop-again : tie.Need-loop-again Inv-loop μ-loop
 loop-again c =
     let s = c .before .before .before .before in
     let at = c .before .before .before .loop in
-    let f : SFits w64 (signedAt (s .args .made .now) (at .t))
+    let f : SFits w64 (signedAt (s .args .corrections .now) (at .t))
     = record { sfits = c .before .shifts .given } in (
       omega arith,
       rw (at .inv .1) (fill-store _ (at .t) _ _ (omega arith) (toZ-ofZ f)),

@@ -1,6 +1,5 @@
 -- What the functions that go through the window promise, and what they ask of their callers.
 use mathlib.Core.Bool.{cond}
-use mathlib.Core.Logic.{_≢_}
 use mathlib.Core.Path.{_≡_}
 use Prim.Native.Nat.{_*_, _+_, _<_, _≤_, ℕ}
 use lib.Dec.{ltb}
@@ -41,17 +40,11 @@ module _ (net : ℕ → ℕ) (corrections : ℕ → ℤ) (uncertainties : ℕ �
 
 -- ---- steps from sums to sums, each a function of the local place's number
 
-pub record Added (t : ℕ) (v : Sums) (old new : ℕ → Sums) : Type 0 where
-  pub here : new t ≡ addSums (old t) v
-  pub others : (i : ℕ) → i ≢ t → new i ≡ old i
-
-pub record FourAdded (t : ℕ) (a b c d : Sums) (old new : ℕ → Sums) : Type 0 where
-  pub first : new t ≡ addSums (old t) a
-  pub second : new (t + 1) ≡ addSums (old (t + 1)) b
-  pub third : new (t + 2) ≡ addSums (old (t + 2)) c
-  pub fourth : new (t + 3) ≡ addSums (old (t + 3)) d
-  pub before : (i : ℕ) → i < t → new i ≡ old i
-  pub after : (i : ℕ) → t + 4 ≤ i → new i ≡ old i
+-- the places from one number up to another have had v added, the others nothing
+pub record AddedIn (from to : ℕ) (v old new : ℕ → Sums) : Type 0 where
+  pub inside : (i : ℕ) → from ≤ i → i < to → new i ≡ addSums (old i) (v i)
+  pub before : (i : ℕ) → i < from → new i ≡ old i
+  pub after : (i : ℕ) → to ≤ i → new i ≡ old i
 
 -- ---- indices in slices of these lengths
 

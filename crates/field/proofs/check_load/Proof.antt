@@ -1,4 +1,4 @@
--- Each group of checks is the definition's, and a later one is made only where those before have passed.
+-- Each group of checks is the definition's; the layout's come first, since they say where the others read.
 use mathlib.Core.List.{List}
 use mathlib.Core.Path.{_∙_, _≡_, ap, sym}
 use Prim.Native.Nat.{_*_, _+_, _≤_, ℕ}
@@ -48,10 +48,6 @@ limit-is c =
     c .check-limit .ensures
     ∙ ap (λ (k : ℕ). limitCheck k (entry f (uncertaintiesStart k))) (count (c .before))
 
-limit-passed : (c : tie.After-enum-told2) → (let f = file (checked (c .before .before .before)) in
-    limitCheck (entryCount f) (uncertainty f) ≡ Passed)
-limit-passed c = sym (limit-is (c .before .before)) ∙ c .enum-told2 .given .1
-
 check-layout-requires : tie.Need-check-layout-requires
 check-layout-requires c κs = search needs
 
@@ -80,27 +76,19 @@ add-check-limit c = omega (arith, in-file c)
 check-limit-requires : tie.Need-check-limit-requires
 check-limit-requires c κs = omega (arith, in-file c)
 
-enum-known-refusal-2 : tie.Need-enum-known-refusal-2
-enum-known-refusal-2 c = search needs
+check-block-room-requires : tie.Need-check-block-room-requires
+check-block-room-requires c κs = search needs
+
+and-then-requires : tie.Need-and-then-requires
+and-then-requires c κs = search needs
 
 returns-2 : tie.Need-returns-2
 unfolding loadChecks
 returns-2 c =
-    let l = c .before .before .before in
-    simp (passed (checked (l .before)), sym (limit-is l) ∙ c .before .refusal2 .given .1)
-
-enum-told-2 : tie.Need-enum-told-2
-enum-told-2 c = search needs
-
-check-block-room-requires : tie.Need-check-block-room-requires
-check-block-room-requires c κs = search needs
-
-returns-3 : tie.Need-returns-3
-unfolding loadChecks
-returns-3 c =
-    let l = c .before in
-    let e = l .before .before .before in
-    simp (passed (checked e), limit-passed l, ← (count e)) (c .check-block-room .ensures)
+    let l = c .before .before in
+    let e = l .before in
+    c .and-then .ensures
+    ∙ simp (limit-is l, c .before .check-block-room .ensures, count e, passed (checked e))
 
 pub check-load-spec : {M : Type 1} → statement M
 check-load-spec =
@@ -115,8 +103,6 @@ check-load-spec =
     mul-check-limit
     add-check-limit
     check-limit-requires
-    enum-known-refusal-2
-    returns-2
-    enum-told-2
     check-block-room-requires
-    returns-3)
+    and-then-requires
+    returns-2)

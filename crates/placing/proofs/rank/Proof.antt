@@ -1,40 +1,35 @@
--- Each branch has the answers to the tests that the definition makes.
+-- The first two axes are in order, so axis 3 finds its place among them.
+use mathlib.Core.Path.{_∙_}
+use native.Mathlib.Omega.{arith}
+use borrow.Author.Needs.{needs}
 use borrow.Author.Tests.{le-leb, lt-leb}
+use Rattle.spline.specs.Place.{a1, a2}
+use Rattle.placing.proofs.Ranks.{third-ranked}
 use Rattle.placing.proofs.rank.Statement.{statement}
-use Rattle.placing.specs.Placing.{rankAxes, withThird}
+use Rattle.placing.specs.Placing.{onAxes, rankAxes}
 use Rattle.placing.proofs.rank.Tie as tie
 
+with-third-requires : tie.Need-with-third-requires
+with-third-requires c κs = search needs
+
 returns : tie.Need-returns
-unfolding rankAxes withThird
-returns c = simp (le-leb _ _ (c .before .if1 .taken), le-leb _ _ (c .if2 .taken))
+unfolding rankAxes
+returns c =
+    let a = c .before .before .args in
+    c .with-third .ensures
+    ∙ third-ranked (onAxes (a .u1) (a .u2) (a .u3)) a1 a2
+    ∙ simp (le-leb (a .u2) (a .u1) (omega arith))
+
+with-third-requires-2 : tie.Need-with-third-requires-2
+with-third-requires-2 c κs = search needs
 
 returns-2 : tie.Need-returns-2
-unfolding rankAxes withThird
+unfolding rankAxes
 returns-2 c =
-    let b = c .before in
-    simp (le-leb _ _ (b .before .if1 .taken), lt-leb _ _ (b .if2 .left), le-leb _ _ (c .if3 .taken))
-
-returns-3 : tie.Need-returns-3
-unfolding rankAxes withThird
-returns-3 c =
-    let b = c .before in
-    simp (le-leb _ _ (b .before .if1 .taken), lt-leb _ _ (b .if2 .left), lt-leb _ _ (c .if3 .left))
-
-returns-4 : tie.Need-returns-4
-unfolding rankAxes withThird
-returns-4 c = simp (lt-leb _ _ (c .before .if1 .left), le-leb _ _ (c .if4 .taken))
-
-returns-5 : tie.Need-returns-5
-unfolding rankAxes withThird
-returns-5 c =
-    let b = c .before in
-    simp (lt-leb _ _ (b .before .if1 .left), lt-leb _ _ (b .if4 .left), le-leb _ _ (c .if5 .taken))
-
-returns-6 : tie.Need-returns-6
-unfolding rankAxes withThird
-returns-6 c =
-    let b = c .before in
-    simp (lt-leb _ _ (b .before .if1 .left), lt-leb _ _ (b .if4 .left), lt-leb _ _ (c .if5 .left))
+    let a = c .before .before .args in
+    c .with-third2 .ensures
+    ∙ third-ranked (onAxes (a .u1) (a .u2) (a .u3)) a2 a1
+    ∙ simp (lt-leb (a .u2) (a .u1) (omega arith))
 
 pub rank-spec : {M : Type 1} → statement M
-rank-spec = tie.close (tie.spec returns returns-2 returns-3 returns-4 returns-5 returns-6)
+rank-spec = tie.close (tie.spec with-third-requires returns with-third-requires-2 returns-2)

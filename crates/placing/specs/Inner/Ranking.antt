@@ -1,20 +1,26 @@
 -- Ranks of the axes and weights, as inner functions of this crate, of `blending` and of `point` have them.
+use mathlib.Core.Bool.{cond}
 use Prim.Native.Nat.{_+_, ℕ}
+use lib.Dec.{leb}
 use Rattle.spline.specs.Place.{Axis}
 use Rattle.placing.specs.Placing.{AxisRanks, axisNumber, onAxes, rankAxes}
 use Rattle.placing.specs.declared.Placing.{Placing}
 use Rattle.placing.specs.declared.Ranking.{Ranking}
 
--- the axes p, r, s with their remainders
+-- three axes in order, by their numbers, with their remainders
+abbrev pub inOrder : ℕ → ℕ → ℕ → ℕ → ℕ → ℕ → Ranking
+inOrder p up r ur s us = record { p = p; r = r; s = s; up = up; ur = ur; us = us }
+
+-- axis 3 among two others, as `withThird` puts it there
+unfoldable pub thirdAmong : ℕ → ℕ → ℕ → ℕ → ℕ → Ranking
+thirdAmong a ua b ub u3 =
+    cond (leb u3 ub) (inOrder a ua b ub 3 u3)
+    (cond (leb u3 ua) (inOrder a ua 3 u3 b ub) (inOrder 3 u3 a ua b ub))
+
+-- the axes p, r, s
 abbrev pub ranking : (Axis → ℕ) → AxisRanks → Ranking
-ranking u o = record {
-  p = axisNumber (o .p);
-  r = axisNumber (o .r);
-  s = axisNumber (o .s);
-  up = u (o .p);
-  ur = u (o .r);
-  us = u (o .s);
-}
+ranking u o =
+    inOrder (axisNumber (o .p)) (u (o .p)) (axisNumber (o .r)) (u (o .r)) (axisNumber (o .s)) (u (o .s))
 
 abbrev pub ranked : ℕ → ℕ → ℕ → Ranking
 ranked u1 u2 u3 = ranking (onAxes u1 u2 u3) (rankAxes (onAxes u1 u2 u3))
