@@ -44,7 +44,7 @@ extern "C" {
 #endif
 
 #define TORSKAVEL_VERSION_MAJOR 0
-#define TORSKAVEL_VERSION_MINOR 1
+#define TORSKAVEL_VERSION_MINOR 2
 #define TORSKAVEL_VERSION_PATCH 0
 
 #define TORSKAVEL_MAX_CODE 16384
@@ -187,7 +187,10 @@ struct torskavel_unit_answer torskavel_load(
  * Refused by 21, 22, 4, 9, 10, 11, 12, 13, 23, in this order. Writes to no slice.
  *
  * On axis b the point is inside where vb + v4 - 1 <= k <= nb - 1 for k, its coordinate divided by the divisor and rounded
- * down. The limit on uncertainties is one of files: lent uncertainties may be any, up to 65535.
+ * down; but k is nb - 1 where the coordinate is nb * divisor, the far face. So inside are the coordinates from
+ * (vb + v4 - 1) * divisor to nb * divisor, both included; where nb is less than vb + v4, none.
+ *
+ * The limit on uncertainties is one of files: lent uncertainties may be any, up to 65535.
  */
 struct torskavel_point_answer torskavel_answer(
     struct torskavel_unit unit,

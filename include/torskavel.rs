@@ -8,7 +8,7 @@
 use core::mem::{align_of, offset_of, size_of};
 
 pub const VERSION_MAJOR: u32 = 0;
-pub const VERSION_MINOR: u32 = 1;
+pub const VERSION_MINOR: u32 = 2;
 pub const VERSION_PATCH: u32 = 0;
 
 /// The most bytes of code and constants of the archive.
@@ -204,7 +204,8 @@ pub fn load(unit: Unit, file: &[u8], corrections: &mut [i16], uncertainties: &mu
     unsafe { torskavel_load(unit, file.as_ptr(), file.len(), c, c_length, u, u_length) }
 }
 
-/// The point's coordinates are over the divisor.
+/// The point's coordinates are over the divisor. The far face of axis b, where the coordinate is nb times the divisor, is
+/// inside; where nb is less than vb + v4, nothing is.
 pub fn answer(
     unit: Unit,
     net: &[u32],

@@ -20,7 +20,7 @@ FIELD = ROOT / "examples/table.field"
 # Of each point: the order, the point over 10, and which of its page's pictures are shown.
 POINTS = {
     "middle": ("1", (34, 23, 26), {"tetrahedron": "cell", "window": "layers1"}),
-    "far-end": ("1", (59, 49, 39), {"tetrahedron": "cell", "window": "layers1"}),
+    "far-face": ("1", (60, 49, 39), {"tetrahedron": "cell", "window": "layers1"}),
     "factory": ("132", (34, 23, 26), {"window": "layers1"}),
     "gap": ("132", (24, 45, 26), {"window": "layers1"}),
 }

@@ -25,9 +25,10 @@ from evaluator import ask
 
 INK, RULE, FRAME, PLAIN, MARKED = "#1a1a1a", "#1f5fa8", "#8a8a8a", "#ffffff", "#ffd27f"
 
-# The example of the page: multiplicities, the block's sizes, the point and its divisor; the corrections
-# that are not 0.
+# The example of the page: multiplicities, the block's sizes, the point and its divisor, and the one on a
+# far face; the corrections that are not 0.
 SHAPE, SIZES, POINT, DIVISOR = (2, 1, 1, 1), (4, 3, 2), (10, 5, 7), 4
+FACE_POINT = (16, 5, 7)
 GAP = -32768
 CORRECTIONS = {(0, 0, 0): 10, (1, 0, 0): 20, (2, 1, 1): -30, (3, 2, 1): GAP}
 UNCERTAINTY = 3
@@ -214,8 +215,11 @@ def pictures():
 def example_holds():
     """Whether the page's example ends in the evaluator's answer."""
     _, numerator, uncertainty, denominator = answered(SHAPE, SIZES, CORRECTIONS, POINT, DIVISOR)
+    _, *on_face = answered(SHAPE, SIZES, CORRECTIONS, FACE_POINT, DIVISOR)
+    n, u, d = (number.replace("-", "−") for number in on_face)
     page = " ".join(PAGE.read_text().split())
-    return f"= {numerator}, U = 6·16 = {uncertainty}, and 2!·4² = {denominator}." in page
+    inner = f"= {numerator}, U = 6·16 = {uncertainty}, and 2!·4² = {denominator}."
+    return inner in page and f"weigh anything: N = {n}, U = {u}, over {d}." in page
 
 
 def readme_quotes():

@@ -1,10 +1,16 @@
-//! Points answered from the numbers of a lent net, which may be no defined net: docs/SPECIFICATION.md, 10
-//! and 11, to the letter, with 23. On a defined net it must agree with module `point`.
+//! Points answered from the numbers of a lent net, which may be no defined net: docs/SPECIFICATION.md, 9 to 11, to the
+//! letter, with 23. On a defined net it must agree with module `point`.
 
 use crate::interpolation::{Quadruple, factorials, quadruples};
 use crate::point::{Call, Fraction, Placed, place};
 use crate::ratio::factorial;
 use crate::unit::{Refusal, refuse_if};
+
+/// u on each axis: on a far face the divisor.
+fn remainders(placed: &Placed) -> [u32; 3] {
+    let axes = placed.sizes.axes();
+    [0, 1, 2].map(|b| if placed.quotient[b] == axes[b] { placed.divisor } else { placed.remainder[b] })
+}
 
 /// The axes by remainder, largest first, of equal ones the lower axis first.
 fn axis_order(remainder: [u32; 3]) -> [usize; 3] {
@@ -14,9 +20,9 @@ fn axis_order(remainder: [u32; 3]) -> [usize; 3] {
 }
 
 /// L0 to L3.
-fn weights(placed: &Placed, order: [usize; 3]) -> [i128; 4] {
-    let [p, r, s] = order.map(|b| i128::from(placed.remainder[b]));
-    [i128::from(placed.divisor) - p, p - r, r - s, s]
+fn weights(remainder: [u32; 3], divisor: u32, order: [usize; 3]) -> [i128; 4] {
+    let [p, r, s] = order.map(|b| i128::from(remainder[b]));
+    [i128::from(divisor) - p, p - r, r - s, s]
 }
 
 fn local_place(b: &Quadruple, order: [usize; 3]) -> [usize; 3] {
@@ -35,10 +41,10 @@ struct Blended {
 }
 
 fn blend(call: &Call, net: &[u32], placed: &Placed, window: &[(usize, [usize; 3])], local: [usize; 3]) -> Blended {
-    let v = placed.multiplicities;
+    let (v, cell) = (placed.multiplicities, placed.cell());
     let mut sums = Blended { shares: 0, correction: 0, uncertainty: 0 };
     for &(index, j) in window {
-        let place = [0, 1, 2].map(|b| v.degree() * (placed.cube[b] - j[b]) + local[b]);
+        let place = [0, 1, 2].map(|b| v.degree() * (cell[b] - j[b]) + local[b]);
         let share = i128::from(net[v.index(place)]);
         sums.shares += share;
         sums.correction += share * i128::from(call.corrections[index]);
@@ -52,13 +58,14 @@ pub fn answer(call: &Call, net: &[u32]) -> Result<Fraction, Refusal> {
     assert_eq!(call.net_length, net.len());
     let placed = place(call)?;
     let degree = placed.multiplicities.degree();
-    let order = axis_order(placed.remainder);
+    let remainder = remainders(&placed);
+    let order = axis_order(remainder);
     let all = quadruples(degree);
     let window: Vec<_> = placed.window().collect();
     let blend = |b| blend(call, net, &placed, &window, local_place(b, order));
     let blended: Vec<Blended> = all.iter().map(blend).collect();
     refuse_if(blended.iter().any(|sums| sums.shares != factorial(degree)), 23)?;
-    let weights = weights(&placed, order);
+    let weights = weights(remainder, placed.divisor, order);
     let (mut numerator, mut uncertainty) = (0, 0);
     for (b, sums) in all.iter().zip(&blended) {
         let powers: i128 = (0..4).map(|i| weights[i].pow(b[i] as u32)).product();
@@ -72,6 +79,21 @@ pub fn answer(call: &Call, net: &[u32]) -> Result<Fraction, Refusal> {
 #[cfg(test)]
 mod tests {
     use super::*;
+    use crate::field::Block;
+    use crate::net::{Multiplicities, Net};
+    use crate::unit::{Sizes, Unit};
+
+    /// The call over the net and the sizes of the example in docs/SPECIFICATION.md, 2.5 and 8.5, at divisor 4.
+    fn call(block: &Block, coordinates: [u32; 3]) -> Call<'_> {
+        let v = Multiplicities::new([2, 1, 1, 1]).unwrap();
+        let unit = Unit::EMPTY.with_net(v).with_block(block.sizes);
+        let (corrections, uncertainties) = (&block.corrections[..], &block.uncertainties[..]);
+        Call { unit, net_length: v.places(), corrections, uncertainties, coordinates, divisor: 4 }
+    }
+
+    fn block() -> Block {
+        Block::constant(Sizes::new([4, 3, 2]).unwrap(), 10, 3)
+    }
 
     #[test]
     fn of_equal_remainders_the_lower_axis_is_first() {
@@ -79,5 +101,29 @@ mod tests {
         assert_eq!(axis_order([1, 5, 5]), [1, 2, 0]);
         assert_eq!(axis_order([1, 5, 1]), [1, 0, 2]);
         assert_eq!(axis_order([0, 1, 2]), [2, 1, 0]);
+    }
+
+    #[test]
+    fn the_placings_worked_by_hand() {
+        let placing = |coordinates| {
+            let placed = place(&call(&block(), coordinates)).unwrap();
+            let remainder = remainders(&placed);
+            let order = axis_order(remainder);
+            (placed.cell(), remainder, order, weights(remainder, 4, order))
+        };
+        assert_eq!(placing([10, 5, 7]), ([2, 1, 1], [2, 1, 3], [2, 0, 1], [1, 1, 1, 1]));
+        assert_eq!(placing([16, 5, 7]), ([3, 1, 1], [4, 1, 3], [0, 2, 1], [0, 1, 2, 1]));
+        assert_eq!(placing([15, 12, 8]), ([3, 2, 1], [3, 4, 4], [1, 2, 0], [0, 0, 1, 3]));
+    }
+
+    #[test]
+    fn shares_that_do_not_add_up_are_seen_where_they_weigh_nothing() {
+        let block = block();
+        let mut numbers = Net::of(Multiplicities::new([2, 1, 1, 1]).unwrap()).numbers;
+        // At (0, 0, 0), which is the low corner's local place alone.
+        numbers[0] = 1;
+        for point in [[10, 5, 7], [16, 5, 7], [16, 12, 8]] {
+            assert_eq!(answer(&call(&block, point), &numbers), Err(Refusal::from(23)));
+        }
     }
 }

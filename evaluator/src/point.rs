@@ -1,6 +1,8 @@
 //! Points answered by the recurrence: N is the sum over the block of correction times m! D^m M(x - j).
 //!
 //! No net and no Bernstein sum takes part. Checks 21 to 13 are those of a point call; 23 cannot apply to a defined net.
+//! A far face needs no rule in the sum: the splines are continuous, so that any entry past the block would have the
+//! value 0 there. Only 12 and 13 know of it.
 
 use crate::field::NEVER_MEASURED;
 use crate::net::Multiplicities;
@@ -50,9 +52,9 @@ impl fmt::Display for Fraction {
 pub struct Placed {
     pub multiplicities: Multiplicities,
     pub sizes: Sizes,
-    /// k on each axis.
-    pub cube: [usize; 3],
-    /// u on each axis.
+    /// Of each coordinate by the divisor: n on a far face.
+    pub quotient: [usize; 3],
+    /// 0 on a far face.
     pub remainder: [u32; 3],
     pub divisor: u32,
     /// m! D^m.
@@ -60,10 +62,16 @@ pub struct Placed {
 }
 
 impl Placed {
+    /// k on each axis: a far face belongs to the last cell.
+    pub fn cell(&self) -> [usize; 3] {
+        let axes = self.sizes.axes();
+        [0, 1, 2].map(|b| self.quotient[b].min(axes[b] - 1))
+    }
+
     /// The entries j of the window with their indices, which ascend.
     pub fn window(&self) -> impl Iterator<Item = (usize, [usize; 3])> {
-        let extents = self.multiplicities.extents();
-        let within = move |j: &[usize; 3]| (0..3).all(|b| j[b] <= self.cube[b] && self.cube[b] < j[b] + extents[b]);
+        let (extents, cell) = (self.multiplicities.extents(), self.cell());
+        let within = move |j: &[usize; 3]| (0..3).all(|b| j[b] <= cell[b] && cell[b] < j[b] + extents[b]);
         (0..self.sizes.entries()).map(|index| (index, self.sizes.entry(index))).filter(move |(_, j)| within(j))
     }
 }
@@ -79,6 +87,12 @@ pub fn largest_divisor(degree: usize) -> u32 {
     (1..=LARGEST_DIVISOR).rev().find(passes).expect("9! is below 2^48")
 }
 
+/// Whether a coordinate is inside on an axis, the far face included.
+fn inside(extent: usize, size: usize, coordinate: u32, divisor: u32) -> bool {
+    let (first, last) = ((extent as u32 - 1) * divisor, size as u32 * divisor);
+    extent <= size && (first..=last).contains(&coordinate)
+}
+
 /// Checks 21, 22, 4, 9, 10, 11, 12, 13, in this order.
 pub fn place(call: &Call) -> Result<Placed, Refusal> {
     let multiplicities = call.unit.net().ok_or(Refusal::from(21))?;
@@ -89,12 +103,12 @@ pub fn place(call: &Call) -> Result<Placed, Refusal> {
     refuse_if(divisor == 0 || divisor > LARGEST_DIVISOR, 10)?;
     let denominator = denominator(multiplicities.degree(), divisor);
     refuse_if(denominator > LARGEST_DENOMINATOR, 11)?;
-    let cube = call.coordinates.map(|c| (c / divisor) as usize);
-    let remainder = call.coordinates.map(|c| c % divisor);
     let (extents, axes) = (multiplicities.extents(), sizes.axes());
-    let inside = (0..3).all(|b| extents[b] <= cube[b] + 1 && cube[b] < axes[b]);
+    let inside = (0..3).all(|b| inside(extents[b], axes[b], call.coordinates[b], divisor));
     refuse_if(!inside, 12)?;
-    let placed = Placed { multiplicities, sizes, cube, remainder, divisor, denominator };
+    let quotient = call.coordinates.map(|c| (c / divisor) as usize);
+    let remainder = call.coordinates.map(|c| c % divisor);
+    let placed = Placed { multiplicities, sizes, quotient, remainder, divisor, denominator };
     let gap = placed.window().find(|&(index, _)| call.corrections[index] == NEVER_MEASURED);
     match gap {
         Some((index, _)) => Err(Refusal::at(13, index)),
@@ -102,7 +116,7 @@ pub fn place(call: &Call) -> Result<Placed, Refusal> {
     }
 }
 
-/// The translates of the point, in a tetrahedron of the cube that has it.
+/// The translates of the point, in a tetrahedron that has it.
 fn translates(placed: &Placed) -> Translates {
     let remainder = placed.remainder.map(i64::from);
     let allowed = |order: &&[usize; 3]| order.windows(2).all(|o| remainder[o[0]] >= remainder[o[1]]);
@@ -115,7 +129,7 @@ fn sum_over_block(call: &Call, placed: &Placed, value: impl Fn([i64; 3]) -> i64)
     let (mut numerator, mut uncertainty) = (0, 0);
     for index in 0..placed.sizes.entries() {
         let j = placed.sizes.entry(index);
-        let value = i128::from(value([0, 1, 2].map(|b| placed.cube[b] as i64 - j[b] as i64)));
+        let value = i128::from(value([0, 1, 2].map(|b| placed.quotient[b] as i64 - j[b] as i64)));
         numerator += value * i128::from(call.corrections[index]);
         uncertainty += value * i128::from(call.uncertainties[index]);
     }
@@ -138,71 +152,4 @@ pub fn answer_without_tables(call: &Call) -> Result<Fraction, Refusal> {
 }
 
 #[cfg(test)]
-mod tests {
-    use super::*;
-    use crate::field::Block;
-    use crate::random::Random;
-
-    /// The block of 2, 2, 2 of docs/SPECIFICATION.md, 14.6.
-    fn small(second: i16) -> Block {
-        let mut block = Block::constant(Sizes::new([2, 2, 2]).unwrap(), 0, 5);
-        block.corrections[0] = 100;
-        block.corrections[1] = second;
-        block
-    }
-
-    fn ask(block: &Block, v: [usize; 4], coordinates: [u32; 3], divisor: u32) -> Result<Fraction, Refusal> {
-        let multiplicities = Multiplicities::new(v).unwrap();
-        let unit = Unit::EMPTY.with_net(multiplicities).with_block(block.sizes);
-        let (corrections, uncertainties) = (&block.corrections[..], &block.uncertainties[..]);
-        let net_length = multiplicities.places();
-        answer(&Call { unit, net_length, corrections, uncertainties, coordinates, divisor })
-    }
-
-    #[test]
-    fn the_figures_worked_by_hand() {
-        let block = small(-40);
-        let ask = |coordinates, divisor| ask(&block, [1; 4], coordinates, divisor);
-        assert_eq!(ask([1, 1, 1], 1), Ok(Fraction::new(100, 5, 1)));
-        assert_eq!(ask([3, 2, 2], 2), Ok(Fraction::new(60, 10, 2)));
-        assert_eq!(ask([0, 1, 1], 1), Err(Refusal::from(12)));
-        assert_eq!(ask([2, 1, 1], 1), Err(Refusal::from(12)));
-    }
-
-    #[test]
-    fn tables_change_no_answer() {
-        let block = Block::random(Sizes::new([4, 4, 4]).unwrap(), &mut Random::new(7));
-        let multiplicities = Multiplicities::new([2, 1, 2, 2]).unwrap();
-        let unit = Unit::EMPTY.with_net(multiplicities).with_block(block.sizes);
-        let (corrections, uncertainties) = (&block.corrections[..], &block.uncertainties[..]);
-        for coordinates in [[39, 31, 42], [47, 24, 36], [36, 36, 36]] {
-            let net_length = multiplicities.places();
-            let call = Call { unit, net_length, corrections, uncertainties, coordinates, divisor: 12 };
-            assert_eq!(answer_without_tables(&call), answer(&call));
-        }
-    }
-
-    #[test]
-    fn a_gap_of_the_window_is_named() {
-        assert_eq!(ask(&small(NEVER_MEASURED), [1; 4], [1, 1, 1], 1), Err(Refusal::at(13, 1)));
-    }
-
-    #[test]
-    fn divisors_of_degree_5() {
-        let block = Block::constant(Sizes::new([4, 4, 4]).unwrap(), 7, 0);
-        let number = |divisor| ask(&block, [2; 4], [3 * divisor; 3], divisor).map_err(|refusal| refusal.number);
-        assert!(number(297).is_ok());
-        assert_eq!(number(298), Err(11));
-        assert_eq!(number(0), Err(10));
-        assert_eq!(number(4097), Err(10));
-        assert_eq!(largest_divisor(5), 297);
-    }
-
-    #[test]
-    fn a_constant_is_answered_with_the_constant() {
-        let block = Block::constant(Sizes::new([4, 5, 3]).unwrap(), -321, 12);
-        let fraction = ask(&block, [2, 3, 1, 1], [3 * 11 + 4, 4 * 11 + 9, 2 * 11 + 1], 11).unwrap();
-        assert_eq!(i128::from(fraction.numerator), -321 * i128::from(fraction.denominator));
-        assert_eq!(fraction.uncertainty, 12 * fraction.denominator);
-    }
-}
+mod tests;

@@ -75,8 +75,9 @@ int main(int count, char **words) {
     unit = build(unit, (const uint8_t[]){1, 3, 2}, 3);
     unit = load(unit, words[1]);
     answer(unit, 5, 5, 5, 2);
+    answer(unit, 5, 6, 5, 2); /* on the far face of axis 2, which has 3 entries: 6 is 3 * 2 */
+    answer(unit, 5, 7, 5, 2); /* past it */
     answer(unit, 7, 5, 5, 2);
-    answer(unit, 3, 5, 5, 2);
     unit = inspect(unit);
     net[0] = 1;
     unit = inspect(unit);

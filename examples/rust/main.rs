@@ -79,7 +79,8 @@ fn main() {
     unit = build(unit, &[1, 5], &mut slices);
     unit = build(unit, &[1, 3, 2], &mut slices);
     unit = load(unit, &path, &mut slices);
-    for point in [[5, 5, 5], [7, 5, 5], [3, 5, 5]] {
+    // The second is on the far face of axis 2, which has 3 entries: 6 is 3 times 2. The third is past it.
+    for point in [[5, 5, 5], [5, 6, 5], [5, 7, 5], [7, 5, 5]] {
         answer(unit, point, 2, &slices);
     }
     unit = inspect(unit, &mut slices);

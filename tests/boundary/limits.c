@@ -217,7 +217,8 @@ static void points(void) {
     EXPECT(answer(unit, 1, 1, 1, 1).number == TORSKAVEL_REFUSED_NO_BLOCK);
     unit = unit_of(NULL, 0, 3);
     EXPECT(answer(unit, 0, 1, 1, 1).number == TORSKAVEL_REFUSED_OUTSIDE);
-    EXPECT(answer(unit, 3, 1, 1, 1).number == TORSKAVEL_REFUSED_OUTSIDE);
+    EXPECT(answer(unit, 3, 1, 1, 1).number == TORSKAVEL_REFUSED_NOT);
+    EXPECT(answer(unit, 4, 1, 1, 1).number == TORSKAVEL_REFUSED_OUTSIDE);
     corrections[1 + 3 * (1 + 3 * 1)] = TORSKAVEL_NEVER_MEASURED;
     struct torskavel_point_answer a = answer(unit, 2, 2, 2, 1);
     EXPECT(a.number == TORSKAVEL_REFUSED_UNMEASURED && a.place == 13);

@@ -81,8 +81,9 @@ def expected():
     unit.build(1, 3, 2)
     unit.load()
     unit.point(5, 5, 5)
+    unit.point(5, 6, 5)
+    unit.point(5, 7, 5)
     unit.point(7, 5, 5)
-    unit.point(3, 5, 5)
     unit.inspect()
     unit.damage[0] = 1
     unit.inspect()

@@ -7,7 +7,7 @@ import xml.etree.ElementTree as ElementTree
 
 from explaining.pictures import SVG, check_cell, check_labels, check_layers
 from explaining.scene import SEED, Scene, random_numbers
-from explaining.told import Told, run, same
+from explaining.told import Told, numbers, run, same
 
 XHTML = "{http://www.w3.org/1999/xhtml}"
 
@@ -68,27 +68,37 @@ def pictures(root):
     return found | {"layers": layers} if found else {}
 
 
+def check_caption(case, root, told):
+    """The far faces that the point is on are named below the first picture."""
+    caption = next(root.iter(XHTML + "figcaption")).text
+    faces = [axis for axis in told.axes if told.remainders[axis - 1] == sum(told.weights)]
+    same(case, "far faces", numbers(caption.partition("the point is on it: ")[2]), faces)
+
+
 def answered(folder, order, sizes, most, divisor, points):
-    """Pages and pictures of points within cells, on their faces, edges and corners; so many of these."""
+    """Pages and pictures of points within cells, on their faces, edges and corners, and on far faces of the
+    table; the far corner, and so many others."""
     rng = random.Random(SEED)
     scene = Scene(folder / "page.field", order, sizes, random_numbers(rng, most))
-    edges = sorted({0, 1, divisor // 2, divisor - 1} & set(range(divisor)))
-    asked = list(itertools.product(edges, repeat=3))
-    for remainders in rng.sample(asked, min(points, len(asked))):
+    edges = sorted({0, 1, divisor // 2, divisor - 1, divisor})
+    *others, corner = itertools.product(edges, repeat=3)
+    asked = [corner, *rng.sample(others, min(points, len(others)))]
+    for remainders in asked:
         point = scene.inside(rng, divisor, remainders)
         root, text = page(folder, scene.path, order, *point, divisor)
         told, found, case = Told(text), pictures(root), f"order {order!r}, {point} over {divisor}"
+        check_caption(case, root, told)
         check_cell(case, found["cell"], told)
         check_layers(case, found["layers"], scene, told)
         check_labels(case, found["cell"])
         for svg in found["layers"]:
             check_labels(case, svg)
-    return min(points, len(asked))
+    return len(asked)
 
 
 def all_answered(folder):
     """Every kind of remainders on the smallest table; some on tables with long numbers or many layers."""
-    smallest = [answered(folder, "", (2, 2, 2), 9, divisor, 64) for divisor in (1, 3, 4096)]
+    smallest = [answered(folder, "", (2, 2, 2), 9, divisor, 124) for divisor in (1, 3, 4096)]
     cases = [("1", (6, 5, 4), 32767, 10), ("132", (20, 9, 3), 99, 1850)]
     cases += [("44", (8, 9, 56), 9, 297), ("4444", (8, 6, 7), 9, 5), ("132", (3, 3, 3), 9, 1)]
     return sum(smallest) + sum(answered(folder, *case, 4) for case in cases)

@@ -79,9 +79,30 @@ def check_cell(case, svg, told):
     same(case, "corners", [numbers(text) for text in texts if text.startswith("corner")], corners)
     remainders = [[axis, told.remainders[axis - 1]] for axis in told.axes]
     same(case, "remainders", [numbers(text) for text in texts if text.startswith("axis")], remainders)
-    dots = [circle.get("class") for circle in svg.iter(SVG + "circle")]
+    dots = list(svg.iter(SVG + "circle"))
+    corners = [dot for dot in dots if dot.get("class") in ("corner", "idle")]
     hollow = ["corner" if weight else "idle" for weight in told.weights]
-    same(case, "hollow corners", [dot for dot in dots if dot in ("corner", "idle")], hollow)
+    same(case, "hollow corners", [dot.get("class") for dot in corners], hollow)
+    corners = [number(dot, "cx", "cy") for dot in corners]
+    check_point(case, dots[-1], corners, told.weights)
+    check_shaded(case, of_class(svg, "face"), corners, told)
+
+
+def check_point(case, dot, corners, weights):
+    """The point, above all other dots, is the mean of the corners by their weights."""
+    mean = [sum(w * at for w, at in zip(weights, line)) / sum(weights) for line in zip(*corners)]
+    right = dot.get("class") == "point" and math.dist(mean, number(dot, "cx", "cy")) < 0.2
+    same(case, "the point drawn where it is", right, True)
+
+
+def check_shaded(case, sides, corners, told):
+    """A side of the cell for each far face that the point is on, with the corners past its axis's step."""
+    faces = [u for u in told.remainders if u == sum(told.weights)]
+    same(case, "shaded sides", len(sides), len(faces))
+    for steps, side in enumerate(sides):
+        at = [list(map(float, spot.split(","))) for spot in side.get("points").split()]
+        on_side = [corner in at for corner in corners]
+        same(case, "corners of a shaded side", on_side, [i > steps for i in range(4)])
 
 
 def number(element, *names):

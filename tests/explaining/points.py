@@ -11,8 +11,10 @@ from explaining.scene import LARGEST, SEED, Scene, random_numbers
 from explaining.told import Told, field, numbers, run, same
 
 
-def placing(point, divisor):
-    cell, u = [x // divisor for x in point], [x % divisor for x in point]
+def placing(point, divisor, sizes):
+    """Cell, remainders, axes and weights; a far face is in the last cell, with the divisor as remainder."""
+    cell = [x // divisor - (x == n * divisor) for x, n in zip(point, sizes)]
+    u = [x - k * divisor for x, k in zip(point, cell)]
     axes = sorted(range(3), key=lambda b: (-u[b], b))
     p, r, s = (u[b] for b in axes)
     return cell, u, axes, [divisor - p, p - r, r - s, s]
@@ -110,6 +112,21 @@ def shown(fraction, decimals):
     return f"{sign}{whole // 10**decimals}{point}{digits}"
 
 
+def check_faces(case, scene, told, u, divisor):
+    """What is said of the far faces that the point is on; without one, nothing."""
+    faces, right = [(b + 1, n) for b, n in enumerate(scene.sizes) if u[b] == divisor], []
+    for b, n in faces:
+        last = f"belongs to the last cell, {n - 1}, with the remainder {divisor}"
+        right.append(f"axis {b}: {n * divisor} = {n} x {divisor} is the far face, which {last}")
+    if faces:
+        right.append("the first weight is 0, as on every far face: the corner (0, 0, 0) does not count")
+        past = ", ".join(f"{n} on axis {b}" for b, n in faces)
+        right.append(f"no entry past the table is missing: the next, {past}, would count only further out")
+    said = [line.strip() for line in told.sections["The point"]]
+    words = "far face", "first weight", "missing"
+    same(case, "far faces", [line for line in said if any(word in line for word in words)], right)
+
+
 def check_plain(case, scene, told, point, divisor):
     """Where the point reads the table, and the plain reading there."""
     at = [Fraction(x, divisor) - Fraction(extent, 2) for x, extent in zip(point, scene.extents)]
@@ -149,16 +166,18 @@ def answered(scene, point, divisor, all_places=False):
     told = Told(run(*words)[0])
     answer, *figure = scene.evaluated(point, divisor)
     same(case, "answer", ("answer", *told.figure), (answer, *map(int, figure)))
-    cell, u, axes, weights = placing(point, divisor)
+    cell, u, axes, weights = placing(point, divisor, scene.sizes)
     right = (list(scene.v), scene.m, scene.extents, widths(scene.v), list(scene.sizes))
     same(case, "shape", (told.multiplicities, told.degree, told.extents, told.box, told.sizes), right)
     placed = (told.cell, told.remainders, [axis - 1 for axis in told.axes], told.weights)
     same(case, "placing", placed, (cell, u, axes, weights))
     same(case, "window", (told.low, told.high), ([k + 1 - e for k, e in zip(cell, scene.extents)], cell))
+    check_faces(case, scene, told, u, divisor)
     check_plain(case, scene, told, point, divisor)
     check_sums(case, scene, told, all_places)
     check_window(case, scene, told, all_places)
     check_answer(case, told)
+    return told.figure
 
 
 def counts(folder):
@@ -191,11 +210,15 @@ def straight(folder):
     return 5
 
 
+# Orders of all degrees.
+ORDERS = ["", "1", "4", "23", "132", "321", "1324", "44", "31111", "121212", "1234123"]
+ORDERS += ["11111111", "12341234", "44444444"]
+
+
 def tried(folder):
     """Nets of all degrees: points within, on faces, edges and corners of cells, D = 1 and the largest D."""
     rng, count = random.Random(SEED), counts(folder) + straight(folder)
-    long = "31111", "121212", "1234123", "11111111", "12341234", "44444444"
-    for order in ("", "1", "4", "23", "132", "321", "1324", "44", *long):
+    for order in ORDERS:
         extents = [2 + order.count(d) + order.count("4") for d in "123"]
         sizes = tuple(extent + rng.randrange(4) for extent in extents)
         most = rng.choice((50, 32767))

@@ -1,4 +1,5 @@
 """What is refused: numbers and places as the evaluator has them, told in words."""
+import itertools
 import random
 
 from evaluator import ask, prints
@@ -47,6 +48,19 @@ WORDS = {
 }
 
 
+def outside(scene, point, divisor):
+    """What is said of each axis that keeps a point outside."""
+    for axis, (x, extent, size) in enumerate(zip(point, scene.extents, scene.sizes), 1):
+        low, high = (extent - 1) * divisor, size * divisor
+        ends = f"both included: cells {extent - 1} to {size - 1}, the last with the far face"
+        wrong = "too low" if x < low else "past the far face"
+        if size < extent:
+            never = "no point is inside with this order and this table, the far face neither"
+            yield f"axis {axis}: {size} entries are fewer than the extent {extent}: {never}"
+        elif not low <= x <= high:
+            yield f"axis {axis}: {x} over {divisor} is {wrong}; inside are {low} to {high}, {ends}"
+
+
 def refused(scene, point, divisor):
     case = f"order {scene.order!r}, point {point} over {divisor}"
     answer, number, index = scene.evaluated(point, divisor)
@@ -54,8 +68,9 @@ def refused(scene, point, divisor):
     text, _ = run(scene.path, scene.order, *point, divisor, status=REFUSED)
     same(case, "above", sections(text)[0], f"refused by {number}")
     begins(case, text, WORDS[number].format(place(int(index), scene.sizes)))
+    [(_, said)] = told(case, text)
+    same(case, "axes", said[:-2], list(outside(scene, point, divisor)) if number == "12" else [])
     if number in ("10", "11"):
-        [(_, said)] = told(case, text)
         right = f"to do: send a divisor from 1 to {LARGEST[scene.m - 1]}, the largest for degree {scene.m}"
         same(case, "what to do", said[-1], right)
     return number, text
@@ -68,10 +83,10 @@ def points(folder):
         sizes = tuple(extent + 1 for extent in extents)
         scene = Scene(folder / "refused.field", order, sizes, random_numbers(rng, 99), gaps=[0])
         largest, inside = LARGEST[m - 1], [extent - 1 for extent in extents]
-        beyond = [(b, k) for b in range(3) for k in (inside[b] - 1, sizes[b], 2**32 - 1)]
+        beyond = [(b, k) for b in range(3) for k in (inside[b] - 1, sizes[b] + 1, 2**32 - 1)]
         beside = [inside[:b] + [k] + inside[b + 1 :] for b, k in beyond]
         asked = [(inside, 1), (inside, 0), (inside, 4097), (inside, 2**32 - 1), ([2**32 - 1] * 3, 1)]
-        asked += [(point, 1) for point in beside] + [([n * largest for n in sizes], largest)]
+        asked += [(point, 1) for point in beside] + [([n * largest + 1 for n in sizes], largest)]
         asked += [(inside, largest + 1)] if largest < 4096 else []
         seen |= {refused(scene, point, divisor)[0] for point, divisor in asked}
         count += len(asked)
@@ -91,14 +106,16 @@ def gaps(folder):
 
 
 def small_tables(folder):
-    rng = random.Random(SEED)
-    scene = Scene(folder / "small.field", "132", (2, 3, 1), random_numbers(rng, 9))
-    _, text = refused(scene, (2, 2, 2), 1)
-    never = "no point is inside with this order and this table"
-    for axis, size in ((1, 2), (3, 1)):
-        if f"  axis {axis}: {size} entries are fewer than the extent 3: {never}\n" not in text:
-            stop("a small table", f"nothing is said of axis {axis}")
-    return 1
+    """Tables with fewer entries than the extent on one axis or more: nothing is inside, the faces neither."""
+    rng, count = random.Random(SEED), 0
+    for sizes in ((2, 3, 1), (2, 2, 2), (3, 3, 2), (1, 4, 4)):
+        scene = Scene(folder / "small.field", "132", sizes, random_numbers(rng, 9))
+        for divisor, step in itertools.product((1, 7), (-1, 0, 1)):
+            number, text = refused(scene, [n * divisor + step for n in sizes], divisor)
+            same("a small table", "refused", number, "12")
+            same("a small table", "what to do", "to do: a table at least as large" in text, True)
+            count += 1
+    return count
 
 
 # ---- files and orders
@@ -164,6 +181,9 @@ def asked(folder):
     for number in NUMBERS:
         text, _ = run(path, "132", "--refused", number, 24)
         begins(f"--refused {number}", text, right[number])
+    [(_, said)] = told("--refused 12", run(path, "132", "--refused", 12, 0)[0])
+    inside = "axis {}: inside are the positions 2 to {}, both included: cells 2 to {}, the last with the far face"
+    same("--refused 12", "axes", said[:-2], [inside.format(b, n, n - 1) for b, n in ((1, 6), (2, 5), (3, 4))])
     for number in (8, 13):
         text, _ = run(path, "132", "--refused", number, 120)
         begins("no entry", text, f"{number}: entry number 120, which this file does not have")
@@ -172,7 +192,7 @@ def asked(folder):
     bad = [(number, 0) for number in (0, 15, 20, 24, -1, "x", 2**32)]
     for words in bad + [(13, "x"), (13, -1), (13,), (13, 0, 1, 1, 1, 1)]:
         complained(path, "132", "--refused", *words)
-    return len(NUMBERS) + 15
+    return len(NUMBERS) + 16
 
 
 def tried(folder):

@@ -28,10 +28,13 @@ class Scene:
         return entry[0] + self.sizes[0] * (entry[1] + self.sizes[1] * entry[2])
 
     def inside(self, rng, divisor, remainders=None):
-        """A point inside the table."""
-        cells = [rng.randrange(self.extents[b] - 1, self.sizes[b]) for b in range(3)]
-        remainders = remainders or [rng.randrange(divisor) for _ in cells]
-        return [k * divisor + u for k, u in zip(cells, remainders)]
+        """A point inside the table; a remainder that is the divisor is for the far face."""
+        remainders = remainders or [rng.randrange(divisor) for _ in range(3)]
+        point = []
+        for extent, size, u in zip(self.extents, self.sizes, remainders):
+            cell = size - 1 if u == divisor else rng.randrange(extent - 1, size)
+            point.append(cell * divisor + u)
+        return point
 
 
 def random_numbers(rng, most):

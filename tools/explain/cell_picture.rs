@@ -49,9 +49,31 @@ fn tetrahedron(drawing: &mut Drawing) {
     }
 }
 
-/// The point with its drop lines: down to the floor and from there to the edges along p and r, and to the one
+/// The cell's far sides on p, r and s, by where they are drawn and by their corners.
+const FAR_SIDES: [(&str, [Steps; 4]); 3] = [
+    ("right", [[1.0, 0.0, 0.0], [1.0, 1.0, 0.0], [1.0, 1.0, 1.0], [1.0, 0.0, 1.0]]),
+    ("back", [[0.0, 1.0, 0.0], [1.0, 1.0, 0.0], [1.0, 1.0, 1.0], [0.0, 1.0, 1.0]]),
+    ("top", [[0.0, 0.0, 1.0], [1.0, 0.0, 1.0], [1.0, 1.0, 1.0], [0.0, 1.0, 1.0]]),
+];
+
+/// Shades the far faces that the point is on, and says which they are.
+fn far_faces(drawing: &mut Drawing, placing: &Placing) -> String {
+    let mut sides = Vec::new();
+    for (axis, (side, corners)) in placing.axes.into_iter().zip(FAR_SIDES) {
+        if placing.on_far_face(axis) {
+            drawing.polygon("face", &corners.map(spot));
+            sides.push(format!("axis {} ({side})", axis + 1));
+        }
+    }
+    match sides.join(", ") {
+        none if none.is_empty() => none,
+        sides => format!(" A shaded side is a far face of the table, and the point is on it: {sides}."),
+    }
+}
+
+/// The point's drop lines: down to the floor and from there to the edges along p and r, and to the one
 /// along s.
-fn point(drawing: &mut Drawing, [p, r, s]: Steps) {
+fn drop_lines(drawing: &mut Drawing, [p, r, s]: Steps) {
     let lines = [
         ([p, r, s], [p, r, 0.0]),
         ([p, r, 0.0], [p, 0.0, 0.0]),
@@ -65,7 +87,6 @@ fn point(drawing: &mut Drawing, [p, r, s]: Steps) {
     for end in [[p, 0.0, 0.0], [1.0, r, 0.0], [0.0, 0.0, s]] {
         drawing.circle("point", spot(end), 2.5);
     }
-    drawing.circle("point", spot([p, r, s]), 6.0);
 }
 
 /// The remainders, beside the edge that each is measured on.
@@ -105,16 +126,19 @@ fn corners(drawing: &mut Drawing, placing: &Placing) {
 pub fn drawn(placing: &Placing) -> (String, String) {
     let steps = placing.axes.map(|axis| f64::from(placing.remainders[axis]) / f64::from(placing.divisor));
     let mut drawing = Drawing::new(SIZE.0, SIZE.1);
+    let faces = far_faces(&mut drawing, placing);
     cube(&mut drawing);
     tetrahedron(&mut drawing);
-    point(&mut drawing, steps);
+    drop_lines(&mut drawing, steps);
     corners(&mut drawing, placing);
     remainders(&mut drawing, placing, steps);
+    // last, since it may be at a corner
+    drawing.circle("point", spot(steps), 6.0);
     let [p, r, s] = placing.axes.map(|axis| axis + 1);
     let caption = format!(
         "The cell {} with the tetrahedron of the axis order {p} {r} {s}: from the corner (0, 0, 0) along \
          axis {p} (to the right), axis {r} (to the back) and axis {s} (upwards). The dot is the point; its \
-         dotted lines go to the remainders, which are parts of {}. A hollow corner has the weight 0.",
+         dotted lines go to the remainders, which are parts of {}. A hollow corner has the weight 0.{faces}",
         words(&placing.cell),
         placing.divisor
     );

@@ -13,13 +13,23 @@ pub struct Placing {
     pub weights: [u32; 4],
 }
 
+/// Cell and remainder on an axis of so many entries. The far face belongs to the last cell, with the divisor
+/// as its remainder.
+fn divided(coordinate: u32, divisor: u32, size: usize) -> (usize, u32) {
+    match ((coordinate / divisor) as usize, coordinate % divisor) {
+        (cell, 0) if cell == size => (cell - 1, divisor),
+        within => within,
+    }
+}
+
 impl Placing {
     /// None where the divisor is 0.
-    pub fn of(coordinates: [u32; 3], divisor: u32) -> Option<Placing> {
+    pub fn of(coordinates: [u32; 3], divisor: u32, sizes: [usize; 3]) -> Option<Placing> {
         if divisor == 0 {
             return None;
         }
-        let remainders = coordinates.map(|x| x % divisor);
+        let divided = [0, 1, 2].map(|b| divided(coordinates[b], divisor, sizes[b]));
+        let remainders = divided.map(|(_, remainder)| remainder);
         let mut axes = [0, 1, 2];
         // A sort that is stable leaves ties by the lower axis.
         axes.sort_by_key(|&b| std::cmp::Reverse(remainders[b]));
@@ -27,11 +37,16 @@ impl Placing {
         Some(Placing {
             coordinates,
             divisor,
-            cell: coordinates.map(|x| (x / divisor) as usize),
+            cell: divided.map(|(cell, _)| cell),
             remainders,
             axes,
             weights: [divisor - up, up - ur, ur - us, us],
         })
+    }
+
+    /// Whether the point is on the far face of an axis.
+    pub fn on_far_face(&self, axis: usize) -> bool {
+        self.remainders[axis] == self.divisor
     }
 
     /// The local place of b0, b1, b2, b3.
@@ -76,8 +91,8 @@ impl Window {
     }
 }
 
-/// The table read on straight lines between the eight entries around the point, correction and uncertainty,
-/// each over (2D)³. None where one of them was never measured.
+/// The table read on straight lines between the eight entries around a point that is inside, correction and
+/// uncertainty, each over (2D)³. None where one of them counts and was never measured.
 pub fn plain_reading(placing: &Placing, net: &Net, block: &Block) -> Option<[i128; 2]> {
     let whole = 2 * i128::from(placing.divisor);
     let mut sums = [0, 0];
@@ -90,7 +105,11 @@ pub fn plain_reading(placing: &Placing, net: &Net, block: &Block) -> Option<[i12
             entry[b] = usize::try_from(steps).ok()? + above;
             weight *= if above == 1 { rest } else { whole - rest };
         }
-        if (0..3).any(|b| entry[b] >= block.sizes[b]) || block.is_gap(entry) {
+        // of a point inside, an entry past the table has the weight 0
+        if weight == 0 {
+            continue;
+        }
+        if block.is_gap(entry) {
             return None;
         }
         sums[0] += weight * i128::from(block.correction(entry));

@@ -151,17 +151,22 @@ fn outside(walk: &Walk, placing: Option<&Placing>) -> Vec<String> {
     let on_axis = |b: usize| {
         let (extent, size, axis) = (extents[b], block.sizes[b], b + 1);
         if size < extent {
-            let never = "no point is inside with this order and this table";
+            let never = "no point is inside with this order and this table, the far face neither";
             return Some(format!("axis {axis}: {size} entries are fewer than the extent {extent}: {never}"));
         }
-        let inside = format!("inside are the cells {} to {}", extent - 1, size - 1);
-        match placing.map(|placing| placing.cell[b]) {
-            None => Some(format!("axis {axis}: {inside}")),
-            Some(cell) if cell + 1 < extent || cell >= size => {
-                Some(format!("axis {axis}: cell {cell}, {inside}"))
-            }
-            Some(_) => None,
-        }
+        let first = extent - 1;
+        let ends = format!("both included: cells {first} to {}, the last with the far face", size - 1);
+        let Some(Placing { coordinates, divisor, cell, .. }) = placing else {
+            return Some(format!("axis {axis}: inside are the positions {first} to {size}, {ends}"));
+        };
+        let wrong = match cell[b] {
+            cell if cell < first => "too low",
+            cell if cell >= size => "past the far face",
+            _ => return None,
+        };
+        let [low, high] = [first, size].map(|position| position * *divisor as usize);
+        let wrong = format!("{} over {divisor} is {wrong}", coordinates[b]);
+        Some(format!("axis {axis}: {wrong}; inside are {low} to {high}, {ends}"))
     };
     (0..3).filter_map(on_axis).collect()
 }
@@ -171,7 +176,7 @@ fn of_point(walk: &Walk, number: u32, place: usize) -> Words {
         refused::OUTSIDE => {
             let small = matches!((&walk.net, &walk.block), (Ok(net), Ok(block))
                 if net.extents().iter().zip(block.sizes).any(|(&extent, size)| size < extent));
-            let to_do = "probe within the cells that are inside";
+            let to_do = "probe further in; the far face itself is inside";
             let larger = "a table at least as large as the extents, or an order with fewer repeats";
             words_of("the point is not inside the table", FITTER, if small { larger } else { to_do })
         }

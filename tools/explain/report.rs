@@ -108,16 +108,37 @@ fn decimals(numerators: [i128; 3], denominator: i128) -> String {
     words(&numerators.map(|numerator| decimal(numerator, denominator, DECIMALS)))
 }
 
-fn point(net: &Net, block: &Block, placing: &Placing, window: Option<Window>, parts: &mut Vec<Part>) {
-    let divisor = i128::from(placing.divisor);
-    let position = decimals(placing.coordinates.map(i128::from), divisor);
+/// From the position to the weights, with the far faces that the point is on.
+fn placed(block: &Block, placing: &Placing, faces: &[usize], parts: &mut Vec<Part>) {
+    let divisor = placing.divisor;
+    let position = decimals(placing.coordinates.map(i128::from), divisor.into());
     line(parts, format!("{} over {divisor}: position {position}", words(&placing.coordinates)));
     line(parts, format!("cell {}, remainders {}", words(&placing.cell), words(&placing.remainders)));
+    for &b in faces {
+        let face = format!("{} = {} x {divisor} is the far face", placing.coordinates[b], block.sizes[b]);
+        let belongs = format!("belongs to the last cell, {}, with the remainder {divisor}", placing.cell[b]);
+        line(parts, format!("axis {}: {face}, which {belongs}", b + 1));
+    }
     let axes = words(&placing.axes.map(|b| b + 1));
     line(parts, format!("axis order {axes}, weights {}, together {divisor}", words(&placing.weights)));
+    if !faces.is_empty() {
+        let idle = "the corner (0, 0, 0) does not count";
+        line(parts, format!("the first weight is 0, as on every far face: {idle}"));
+    }
+}
+
+fn point(net: &Net, block: &Block, placing: &Placing, window: Option<Window>, parts: &mut Vec<Part>) {
+    let faces: Vec<usize> = (0..3).filter(|&b| placing.on_far_face(b)).collect();
+    placed(block, placing, &faces, parts);
     let Some(window) = window else { return };
     let (low, high) = (words(&window.low), words(&window.high));
     line(parts, format!("window from {low} to {high}: {} entries", window.count()));
+    if !faces.is_empty() {
+        let next: Vec<_> = faces.iter().map(|&b| format!("{} on axis {}", block.sizes[b], b + 1)).collect();
+        let further = format!("the next, {}, would count only further out", next.join(", "));
+        line(parts, format!("no entry past the table is missing: {further}"));
+    }
+    let divisor = i128::from(placing.divisor);
     let half = decimals(net.extents().map(|extent| extent as i128), 2);
     let reading = decimals([0, 1, 2].map(|b| placing.reading(net, b)), 2 * divisor);
     line(parts, format!("less half the extents, {half}, it reads the table at {reading}"));

@@ -9,6 +9,7 @@ const STYLE: &str = "
 .explain .dashed{stroke-dasharray:4 4}
 .explain .blue{stroke:#1f5fa8;stroke-width:2;fill:none}
 .explain .body{fill:#1f5fa8;fill-opacity:.14}
+.explain .face{fill:#c22f2f;fill-opacity:.16}
 .explain .corner{fill:#1f5fa8;stroke:#1f5fa8;stroke-width:2}
 .explain .idle{fill:#ffffff;stroke:#1f5fa8;stroke-width:2}
 .explain .drop{stroke:#c22f2f;stroke-dasharray:2 3;fill:none}
@@ -22,6 +23,7 @@ const STYLE: &str = "
 .explain .edge{stroke:#7d828a}
 .explain .blue{stroke:#7db4f5}
 .explain .body{fill:#7db4f5}
+.explain .face{fill:#ff8a80}
 .explain .corner{fill:#7db4f5;stroke:#7db4f5}
 .explain .idle{fill:#17191c;stroke:#7db4f5}
 .explain .drop{stroke:#ff8a80}

@@ -76,7 +76,7 @@ impl Walk {
         let Question::Point { coordinates, divisor } = self.question else { return };
         let answer = library::answer(unit, net, block, coordinates, divisor);
         let refused = answer.as_ref().err().map_or(0, |refusal| refusal.number);
-        self.placing = Placing::of(coordinates, divisor);
+        self.placing = Placing::of(coordinates, divisor, block.sizes);
         // 10 and 11 come before the window is looked at, and keep the powers of the divisor small
         if refused != torskavel::refused::DIVISOR && refused != torskavel::refused::DENOMINATOR {
             self.window = self.placing.as_ref().and_then(|placing| placing.window(net, block));

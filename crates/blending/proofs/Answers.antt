@@ -33,7 +33,7 @@ use Rattle.blending.specs.LocalPlaces.{localPlaces}
 module _ (u : Unit) (netLength correctionsLength uncertaintiesLength : ℕ) where
   -- a placing that no check has refused can be blended
   pub fit : (x y z D : ℕ) → Lent u netLength correctionsLength uncertaintiesLength → PointAccepted u x y z D
-      → Fit u netLength correctionsLength uncertaintiesLength (placing x y z D)
+      → Fit u netLength correctionsLength uncertaintiesLength (placing u x y z D)
   unfolding placing
   fit x y z D l p = record {
     net-held = l .unit .net-held;
@@ -42,7 +42,7 @@ module _ (u : Unit) (netLength correctionsLength uncertaintiesLength : ℕ) wher
     corrections-long = l .corrections-long;
     uncertainties-long = l .uncertainties-long;
     point-inside = p .point-inside;
-    axes = placing-axes x y z D;
+    axes = placing-axes u x y z D;
   }
 
 -- ---- the checks of the window
@@ -102,7 +102,8 @@ module _ (u : Unit) (net : List ℕ) (corrections : List ℤ) (uncertainties : L
   -- where neither refuses, the window decides
   pub window-decides : lent-checks ≡ Passed → pointChecks u x y z D ≡ Passed
       → checks
-      ≡ windowChecks (netOf u) (sizes u) (numberAt net) (correctionAt (sizes u) corrections) (placing x y z D)
+      ≡ windowChecks (netOf u) (sizes u) (numberAt net) (correctionAt (sizes u) corrections)
+      (placing u x y z D)
   unfolding blendChecks
   window-decides e h = rw (e, h) refl
 
@@ -123,7 +124,7 @@ module _ (u : Unit) (net : List ℕ) (corrections : List ℤ) (uncertainties : L
 
   -- else the placing is, and they are written
   pub blend-made : (shifts : List ℤ) (spreads : List ℕ) → checks ≡ Passed
-      → (let q = placing x y z D in
+      → (let q = placing u x y z D in
       (Placed q ≡ blendAnswer u net corrections uncertainties x y z D)
       × ((writtenIf Passed (blendedCorrectionAt u net corrections q) u shifts
       ≡ blendedCorrections u net corrections uncertainties x y z D shifts)

@@ -1,11 +1,11 @@
 -- The window of a point that is inside lies within the block and, at every local place, within the net.
-use mathlib.Core.Bool.{Bool, _&&_, and-eq-true-iff, cond, false, true}
+use mathlib.Core.Bool.{Bool, cond, false, true}
 use mathlib.Core.Path.{_≡_, refl, sym}
 use Prim.Native.Nat.{_*_, _+_, _-_, _<_, _≤_, ℕ}
 use native.Mathlib.Nat.{lt-of-lt-of-le, mul-le-mul, mul-le-mul-left}
 use native.Mathlib.Omega.{arith}
-use borrow.Author.Tests.{leb-true, ltb-false, ltb-true}
-use lib.Dec.{eqb, leb, ltb}
+use borrow.Author.Tests.{ltb-false, ltb-true}
+use lib.Dec.{eqb, ltb}
 use Rattle.sums.proofs.Places.{index-in}
 use Rattle.spline.specs.Box.{index, places, width}
 use Rattle.spline.specs.Multiplicities.{Multiplicities, degree, extent}
@@ -14,8 +14,9 @@ use Rattle.unit.proofs.Limits.{BlockLimits, NetLimits, block-limits, net-limits
 use Rattle.unit.specs.Unit.{netOf}
 use Rattle.unit.specs.declared.Unit.{Unit}
 use Rattle.shape.proofs.Shapes.{limits-boxed}
+use Rattle.placing.proofs.Cells.{cell-inside, inside-axes}
 use Rattle.placing.specs.Inner.Ranking.{Axes}
-use Rattle.placing.specs.Placing.{inside, insideOn, placingCell, sizes}
+use Rattle.placing.specs.Placing.{inside, placingCell, sizes}
 use Rattle.placing.specs.declared.Placing.{Placing}
 use Rattle.blending.proofs.LocalPlaces.{local-index, local-le, ordered-at, sums-of}
 use Rattle.blending.proofs.Numbers.{count-most, degree-at}
@@ -27,14 +28,7 @@ use Rattle.blending.specs.LocalPlaces.{local, localAt}
 use Rattle.blending.specs.declared.frame.Frame.{Frame}
 use Rattle.blending.specs.declared.local.LocalPlace.{LocalPlace}
 
--- E ≤ k + 1 ≤ n on an axis, and on all
-inside-on : (E n k : ℕ) → 1 ≤ n → insideOn E n k ≡ true → (E ≤ k + 1) × (k < n)
-inside-on E n k h t =
-    let s = and-eq-true-iff (leb (E - 1) k) (leb k (n - 1)) .0 t in
-    let a = leb-true (E - 1) k (s .0) in
-    let b = leb-true k (n - 1) (s .1) in
-    (omega arith, omega arith)
-
+-- E ≤ k + 1 ≤ n on every axis
 pub record Inside (u : Unit) (q : Placing) : Type 0 where
   pub axis1 : (extent (netOf u) a1 ≤ q .k1 + 1) × (q .k1 < u .n1)
   pub axis2 : (extent (netOf u) a2 ≤ q .k2 + 1) × (q .k2 < u .n2)
@@ -43,17 +37,12 @@ pub record Inside (u : Unit) (q : Placing) : Type 0 where
 -- what `inside` says of a placing's cell
 pub inside-facts : (u : Unit) (q : Placing) → BlockLimits (u .n1) (u .n2) (u .n3)
     → inside (netOf u) (sizes u) (placingCell q) ≡ true → Inside u q
-unfolding inside
 inside-facts u q l t =
-    let in1 = insideOn (extent (netOf u) a1) (u .n1) (q .k1) in
-    let in2 = insideOn (extent (netOf u) a2) (u .n2) (q .k2) in
-    let in3 = insideOn (extent (netOf u) a3) (u .n3) (q .k3) in
-    let s = and-eq-true-iff (in1 && in2) in3 .0 t in
-    let r = and-eq-true-iff in1 in2 .0 (s .0) in
+    let i = inside-axes (netOf u) (sizes u) (placingCell q) .0 t in
     record {
-      axis1 = inside-on (extent (netOf u) a1) (u .n1) (q .k1) (l .least1) (r .0);
-      axis2 = inside-on (extent (netOf u) a2) (u .n2) (q .k2) (l .least2) (r .1);
-      axis3 = inside-on (extent (netOf u) a3) (u .n3) (q .k3) (l .least3) (s .1);
+      axis1 = cell-inside (extent (netOf u) a1) (u .n1) (q .k1) (l .least1) .0 (i .0);
+      axis2 = cell-inside (extent (netOf u) a2) (u .n2) (q .k2) (l .least2) .0 (i .1);
+      axis3 = cell-inside (extent (netOf u) a3) (u .n3) (q .k3) (l .least3) .0 (i .2);
     }
 
 -- a place of the box on one axis

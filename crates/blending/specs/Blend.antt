@@ -54,12 +54,13 @@ unfoldable pub blendChecks : Unit → List ℕ → List ℤ → List ℕ → ℕ
 blendChecks u net corrections uncertainties x y z D =
     andThen (lentChecks u (length net) (length corrections) (length uncertainties))
     (andThen (pointChecks u x y z D)
-    (windowChecks (netOf u) (sizes u) (numberAt net) (correctionAt (sizes u) corrections) (placing x y z D)))
+    (windowChecks (netOf u) (sizes u) (numberAt net) (correctionAt (sizes u) corrections)
+    (placing u x y z D)))
 
 -- Section 10.7: the answer
 unfoldable pub blendAnswer : Unit → List ℕ → List ℤ → List ℕ → ℕ → ℕ → ℕ → ℕ → PlacingAnswer
 blendAnswer u net corrections uncertainties x y z D =
-    passedOr (blendChecks u net corrections uncertainties x y z D) (Placed (placing x y z D)) Refused
+    passedOr (blendChecks u net corrections uncertainties x y z D) (Placed (placing u x y z D)) Refused
 
 -- ---- the arrays
 
@@ -94,9 +95,9 @@ writtenIf k f u d = passedOr k (filled f (localPlaces (degree (netOf u))) d) (λ
 unfoldable pub blendedCorrections : Unit → List ℕ → List ℤ → List ℕ → ℕ → ℕ → ℕ → ℕ → List ℤ → List ℤ
 blendedCorrections u net corrections uncertainties x y z D =
     writtenIf (blendChecks u net corrections uncertainties x y z D)
-    (blendedCorrectionAt u net corrections (placing x y z D)) u
+    (blendedCorrectionAt u net corrections (placing u x y z D)) u
 
 unfoldable pub blendedUncertainties : Unit → List ℕ → List ℤ → List ℕ → ℕ → ℕ → ℕ → ℕ → List ℕ → List ℕ
 blendedUncertainties u net corrections uncertainties x y z D =
     writtenIf (blendChecks u net corrections uncertainties x y z D)
-    (blendedUncertaintyAt u net uncertainties (placing x y z D)) u
+    (blendedUncertaintyAt u net uncertainties (placing u x y z D)) u

@@ -103,7 +103,7 @@ abbrev constantValue : Multiplicities → Unit → List ℕ → List ℕ → ℤ
 constantValue v u net uncertainties c x y z D = Value (record {
   numerator = c *ℤ pos (scale (degree v) D);
   uncertainty =
-      uncertaintyNumerator v (numberAt net) (uncertaintyAt (sizes u) uncertainties) (placing x y z D);
+      uncertaintyNumerator v (numberAt net) (uncertaintyAt (sizes u) uncertainties) (placing u x y z D);
   denominator = scale (degree v) D;
 })
 
@@ -117,7 +117,7 @@ constant-held : (u : Unit) (net : List ℕ) (corrections : List ℤ) (uncertaint
     ≡ constantValue (netOf u) u net uncertainties c x y z D
 constant-held u net corrections uncertainties x y z D c holds block passes inside =
     let v = netOf u in
-    let q = placing x y z D in
+    let q = placing u x y z D in
     let number = numberAt net in
     let correction = correctionAt (sizes u) corrections in
     let l = lent u (length net) (length corrections) (length uncertainties) passes in
@@ -136,10 +136,10 @@ constant-held u net corrections uncertainties x y z D c holds block passes insid
     blended-constant v number correction (placingCell q) (localPlace q b1 b2 b3) c entry
     (window-shares v p net (l .net-long) holds (localPlace q b1 b2 b3)
     (local-le q b1 b2 b3 (degree v) (omega arith))))
-    ∙ ap (λ (d : ℕ). c *ℤ pos (scale (degree v) d)) (weights-add-up x y z D (placeable .some)) in
+    ∙ ap (λ (d : ℕ). c *ℤ pos (scale (degree v) d)) (weights-add-up u x y z D (placeable .divisor .some)) in
     fraction u net corrections uncertainties x y z D passes inside
     (constant-measured v (sizes u) (placingCell q) corrections c block)
-    (adds-up v p net (l .net-long) holds x y z D)
+    (adds-up v p net (l .net-long) holds q)
     ∙ ap
     (λ (w : ℤ).
     Value (record {

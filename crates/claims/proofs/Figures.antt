@@ -10,8 +10,8 @@ use Rattle.spline.specs.Build.{built, simple, stepped, sumBack}
 use Rattle.spline.specs.Multiplicities.{allowed}
 use Rattle.spline.specs.Rule.{lowerAbove}
 use Rattle.unit.specs.Unit.{hasBlock, hasNet, sizeAllowed, sizesAllowed}
-use Rattle.placing.specs.Place.{lentChecks, pointChecks, unitChecks}
-use Rattle.placing.specs.Placing.{inside, placing, rankAxes, withThird}
+use Rattle.placing.specs.Place.{divisorChecks, insideCheck, lentChecks, pointChecks, unitChecks}
+use Rattle.placing.specs.Placing.{inside, located, placing, rankAxes, withThird}
 use Rattle.blending.specs.Blend.{windowChecks}
 use Rattle.point.specs.Answer.{pointAnswer, valueAnswer}
 use Rattle.blending.specs.Blending.{addsUp, allSimplex, blendedCorrection, blendedUncertainty, localPlace}
@@ -24,10 +24,10 @@ use Rattle.claims.specs.Figures.{AllHold, pointFigures}
 pub all-figures : AllFigures
 unfolding sumTo sumZ sumBox sumBoxZ factorial multinomial sumSimplex sumSimplexZ bernstein allTo first
     tabulate lowerAbove simple sumBack stepped built allowed netList hasNet sizeAllowed sizesAllowed hasBlock
-    inside withThird rankAxes placing localPlace share shareSum blendedCorrection blendedUncertainty
-    shiftNumerator uncertaintyNumerator allSimplex addsUp windowGap firstGap unitChecks pointChecks lentChecks
-    windowChecks valueAnswer pointAnswer
+    located inside withThird rankAxes placing localPlace share shareSum blendedCorrection blendedUncertainty
+    shiftNumerator uncertaintyNumerator allSimplex addsUp windowGap firstGap unitChecks divisorChecks
+    insideCheck pointChecks lentChecks windowChecks valueAnswer pointAnswer
 all-figures = (refl, ((refl, refl, refl), (refl, (refl, (refl, (refl, (refl, (refl, points))))))))
   where
     points : AllHold pointFigures
-    points = (refl, (refl, (refl, (refl, tt))))
+    points = (refl, (refl, (refl, (refl, (refl, (refl, tt))))))

@@ -10,4 +10,4 @@ pub fraction : Fraction
 fraction u net corrections uncertainties x y z D passes inside measured even =
     point-valued u net corrections uncertainties x y z D passes inside
     ∙ value-is (netOf u) (sizes u) (numberAt net) (correctionAt (sizes u) corrections)
-    (uncertaintyAt (sizes u) uncertainties) (placing x y z D) D measured even
+    (uncertaintyAt (sizes u) uncertainties) (placing u x y z D) D measured even

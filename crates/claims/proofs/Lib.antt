@@ -8,6 +8,7 @@ pub mod Held
 pub mod WindowShares
 pub mod Fraction
 pub mod ConstantBlock
+pub mod Admitted
 pub mod Figures
 pub mod Refusals
 pub mod FlatNumbers

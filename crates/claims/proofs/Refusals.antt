@@ -25,7 +25,8 @@ use Rattle.inspection.specs.Inspect.{definedNumber, differsFrom, inspectAnswer,
 use Rattle.field.specs.File.{entryCount, fileLength, headerLength, size1, size2, size3, uncertainty}
 use Rattle.field.specs.Load.{layoutChecks, limitCheck, loadAnswer, loadChecks}
 use Rattle.placing.proofs.Placed.{refused-by}
-use Rattle.placing.specs.Place.{lentChecks, limit, placeAnswer, pointChecks, scale, unitChecks}
+use Rattle.placing.specs.Place.{divisorChecks, insideCheck, lentChecks, limit, placeAnswer}
+use Rattle.placing.specs.Place.{pointChecks, scale, unitChecks}
 use Rattle.placing.specs.Placing.{cells, inside, placing, placingCell, sizes}
 use Rattle.placing.specs.declared.Placing.{Placing}
 use Rattle.blending.specs.Blend.{blendAnswer, blendChecks, correctionAt, numberAt, windowChecks}
@@ -109,11 +110,12 @@ lent-numbered u netLength correctionsLength uncertaintiesLength =
     (if-numbered 9 (ltb correctionsLength n || ltb uncertaintiesLength n) Passed refl tt))
 
 point-numbered : (u : Unit) (x y z D : ℕ) → Numbered (pointChecks u x y z D)
-unfolding pointChecks
+unfolding pointChecks divisorChecks insideCheck
 point-numbered u x y z D =
-    if-numbered 10 (eqb D 0 || ltb 4096 D) _ refl
-    (if-numbered 11 (ltb limit (scale (degree (netOf u)) D)) _ refl
-    (if-numbered 12 (not (inside (netOf u) (sizes u) (cells x y z D))) Passed refl tt))
+    then-numbered (divisorChecks (netOf u) D) _
+    (if-numbered 10 (eqb D 0 || ltb 4096 D) _ refl
+    (if-numbered 11 (ltb limit (scale (degree (netOf u)) D)) Passed refl tt))
+    (if-numbered 12 (not (inside (netOf u) (sizes u) (cells u x y z D))) Passed refl tt)
 
 window-numbered : (v : Multiplicities) (n : Axis → ℕ) (net : ℕ → ℕ) (corrections : ℕ → ℕ → ℕ → ℤ)
     (q : Placing) → Numbered (windowChecks v n net corrections q)
@@ -130,7 +132,7 @@ blend-numbered u net corrections uncertainties x y z D =
     (lent-numbered u (length net) (length corrections) (length uncertainties))
     (then-numbered (pointChecks u x y z D) _ (point-numbered u x y z D)
     (window-numbered (netOf u) (sizes u) (numberAt net) (correctionAt (sizes u) corrections)
-    (placing x y z D)))
+    (placing u x y z D)))
 
 -- ---- the answers
 

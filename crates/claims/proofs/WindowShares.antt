@@ -20,7 +20,7 @@ use Rattle.spline.specs.Box.{index, places, width}
 use Rattle.spline.specs.Defined.{defined}
 use Rattle.spline.specs.Multiplicities.{Multiplicities, degree, extent}
 use Rattle.spline.specs.Place.{Axis, a1, a2, a3, place}
-use Rattle.placing.specs.Placing.{placing}
+use Rattle.placing.specs.declared.Placing.{Placing}
 use Rattle.blending.proofs.LocalPlaces.{local-le}
 use Rattle.blending.specs.Blend.{numberAt}
 use Rattle.blending.specs.Blending.{addsUp, allSimplex, localPlace, share, shareSum}
@@ -58,10 +58,9 @@ module _ (v : Multiplicities) (p : Positive v) (net : List ℕ)
       ∙ shares-add-up v p (u a1) (u a2) (u a3) (k a1) (k a2) (k a3)
 
   -- so 23 does not apply
-  pub adds-up : (X Y Z D : ℕ) → addsUp v (numberAt net) (placing X Y Z D) ≡ true
+  pub adds-up : (q : Placing) → addsUp v (numberAt net) q ≡ true
   unfolding addsUp allSimplex
-  adds-up X Y Z D =
-      let q = placing X Y Z D in
+  adds-up q =
       all-from (suc (degree v)) _ (λ x lx. all-from (suc x) _ (λ y ly. all-from (suc y) _ (λ z lz.
       eq-eqb _ _
       (window-shares (localPlace q (x - y) (y - z) z)

@@ -12,8 +12,9 @@ use Rattle.sums.specs.Search.{nowhere}
 use Rattle.spline.specs.Box.{places, spread, width}
 use Rattle.spline.specs.Build.{Follows, direction, orderNet, simple}
 use Rattle.spline.specs.Defined.{defined, definedOrder}
-use Rattle.spline.specs.Multiplicities.{HasRepeat, Multiplicities, allowed, degree, orderMultiplicities}
-use Rattle.spline.specs.Place.{Direction, Net, Place}
+use Rattle.spline.specs.Multiplicities.{HasRepeat, Multiplicities, allowed, degree, extent}
+use Rattle.spline.specs.Multiplicities.{orderMultiplicities}
+use Rattle.spline.specs.Place.{Direction, Net, Place, a1, a2, a3}
 use Rattle.unit.specs.Checks.{refusal}
 use Rattle.unit.specs.Unit.{netOf, withNet}
 use Rattle.unit.specs.declared.Checked.the-variants.{Passed}
@@ -24,7 +25,7 @@ use Rattle.net.specs.Build.{buildAnswer, buildNet, buildWork}
 use Rattle.net.specs.Order.{buildChecks, orderChecks, orderPlaces, orderWidth}
 use Rattle.inspection.specs.Inspect.{inspectAnswer}
 use Rattle.field.specs.Load.{loadAnswer, loadCorrections, loadUncertainties}
-use Rattle.placing.specs.Place.{lentChecks, pointChecks, scale}
+use Rattle.placing.specs.Place.{divisorChecks, lentChecks, pointChecks, scale, unitChecks}
 use Rattle.placing.specs.Placing.{placing, placingCell, sizes}
 use Rattle.blending.specs.Blend.{correctionAt, numberAt, uncertaintyAt}
 use Rattle.point.specs.Answer.{pointAnswer}
@@ -38,7 +39,7 @@ use Rattle.flat.specs.declared.FlatUnit.{FlatUnit}
 use Rattle.claims.specs.Figures.{AllHold, figures}
 use Rattle.claims.specs.Nets.{BuildsDefined, HoldsDefined, LowestDifference, ObeysIn, RightNumbers}
 use Rattle.claims.specs.Nets.{countByte}
-use Rattle.claims.specs.Points.{BuiltOrPassed, Constant}
+use Rattle.claims.specs.Points.{BuiltOrPassed, Constant, CoordinateInside}
 use Rattle.claims.specs.Refusals.{Met, listed}
 
 -- ---- demand 1
@@ -123,7 +124,7 @@ Fraction =
     (u : Unit) (net : List ℕ) (corrections : List ℤ) (uncertainties : List ℕ) (x y z D : ℕ)
     → (let v = netOf u in
     let correction = correctionAt (sizes u) corrections in
-    let q = placing x y z D in
+    let q = placing u x y z D in
     lentChecks u (length net) (length corrections) (length uncertainties) ≡ Passed
     → pointChecks u x y z D ≡ Passed
     → firstGap v (sizes u) correction (placingCell q) ≡ nowhere
@@ -212,9 +213,23 @@ ConstantBlock =
     ≡ Value (record {
       numerator = c *ℤ pos (scale (degree v) D);
       uncertainty =
-          uncertaintyNumerator v (numberAt net) (uncertaintyAt (sizes u) uncertainties) (placing x y z D);
+          uncertaintyNumerator v (numberAt net) (uncertaintyAt (sizes u) uncertainties) (placing u x y z D);
       denominator = scale (degree v) D;
     })
+
+-- ---- the far face
+
+-- Section 14.5. For a unit with a net and a block, and a divisor to which neither 10 nor 11 applies, 12 lets
+-- exactly those points pass that have a coordinate inside on every axis, the far face included.
+abbrev pub Admitted : Type 0
+Admitted =
+    (u : Unit) (x y z D : ℕ)
+    → unitChecks u ≡ Passed → divisorChecks (netOf u) D ≡ Passed
+    → (let E = extent (netOf u) in
+    (pointChecks u x y z D ≡ Passed)
+    ↔ (CoordinateInside (E a1) (u .n1) x D
+    × CoordinateInside (E a2) (u .n2) y D
+    × CoordinateInside (E a3) (u .n3) z D))
 
 -- ---- figures
 

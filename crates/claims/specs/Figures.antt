@@ -14,7 +14,8 @@ use Rattle.unit.specs.declared.Checked.the-variants.{Passed, Stopped}
 use Rattle.unit.specs.declared.Unit.{Unit}
 use Rattle.placing.specs.Place.{pointChecks}
 use Rattle.point.specs.Answer.{pointAnswer}
-use Rattle.point.specs.declared.PointAnswer.the-variants.{Value}
+use Rattle.point.specs.declared.PointAnswer.{PointAnswer}
+use Rattle.point.specs.declared.PointAnswer.the-variants.{Refused, Value}
 
 -- a unit with a net of v1..v4 and a block of n1, n2, n3
 abbrev pub unitWith : ℕ → ℕ → ℕ → ℕ → ℕ → ℕ → ℕ → Unit
@@ -40,6 +41,8 @@ pub data Figure : Type 0 where
   -- the simple net and a block of 2, 2, 2 with these corrections and all uncertainties 5: a point and a
   -- divisor, and N, U and the denominator
   point : List ℤ → ℕ → ℕ → ℕ → ℕ → ℤ → ℕ → ℕ → Figure
+  -- the same net and block: a point and a divisor, and the number of the refusal, whose place is 0
+  refused : List ℤ → ℕ → ℕ → ℕ → ℕ → ℕ → Figure
 
 -- the numbers of the simple net, in index order
 abbrev pub simpleNumbers : List ℕ
@@ -47,6 +50,11 @@ simpleNumbers = netList (width (multiplicities 1 1 1 1)) simple
 
 abbrev pub eightFives : List ℕ
 eightFives = 5 ∷ 5 ∷ 5 ∷ 5 ∷ 5 ∷ 5 ∷ 5 ∷ 5 ∷ []
+
+-- what the point call answers for these
+abbrev pub smallAnswer : List ℤ → ℕ → ℕ → ℕ → ℕ → PointAnswer
+smallAnswer corrections x y z D =
+    pointAnswer (unitWith 1 1 1 1 2 2 2) simpleNumbers corrections eightFives x y z D
 
 -- what a figure says of the definitions
 abbrev pub Holds : Figure → Type 0
@@ -57,8 +65,8 @@ Holds (box order w1 w2 w3) =
     × (width (orderMultiplicities order) a3 ≡ w3)
 Holds (divisor u x y z D checked) = pointChecks u x y z D ≡ checked
 Holds (point corrections x y z D N U d) =
-    pointAnswer (unitWith 1 1 1 1 2 2 2) simpleNumbers corrections eightFives x y z D
-    ≡ Value (record { numerator = N; uncertainty = U; denominator = d })
+    smallAnswer corrections x y z D ≡ Value (record { numerator = N; uncertainty = U; denominator = d })
+Holds (refused corrections x y z D n) = smallAnswer corrections x y z D ≡ Refused (refusal n 0)
 
 abbrev pub AllHold : List Figure → Type 0
 AllHold [] = Prim.Unit {0}
@@ -76,6 +84,8 @@ pointFigures =
     ∷ divisor (unitWith 2 2 2 2 4 4 4) 894 894 894 298 (Stopped (refusal 11 0))
     ∷ point twoEntries 1 1 1 1 (pos 100) 5 1
     ∷ point twoEntries 3 2 2 2 (pos 60) 10 2
+    ∷ point twoEntries 2 1 1 1 (negsuc 39) 5 1
+    ∷ refused twoEntries 0 1 1 1 12
     ∷ []
 
 -- of nets, then of points

@@ -1,8 +1,8 @@
--- What the statement on points cites: Section 14.5.
+-- What the statements on points cite: Section 14.5.
 use mathlib.Core.Bool.{false}
 use mathlib.Core.List.{List}
 use mathlib.Core.Path.{_≡_}
-use Prim.Native.Nat.{_<_, ℕ}
+use Prim.Native.Nat.{_*_, _-_, _<_, _≤_, ℕ}
 use lib.IntN.{pos, ℤ}
 use lib.ListN.{getD, length}
 use Rattle.spline.specs.Multiplicities.{Multiplicities, orderMultiplicities}
@@ -24,3 +24,8 @@ pub data BuiltOrPassed : Multiplicities → List ℕ → Type 0 where
 pub record Constant (n : ℕ) (corrections : List ℤ) (c : ℤ) : Type 0 where
   pub measured : isGap c ≡ false
   pub throughout : (i : ℕ) → i < n → getD corrections i (pos 0) ≡ c
+
+-- Section 9.2: a coordinate over D is inside on an axis with extent E and n entries: from (E−1)×D to n×D,
+-- both included
+abbrev pub CoordinateInside : ℕ → ℕ → ℕ → ℕ → Type 0
+CoordinateInside E n x D = (E ≤ n) × ((E - 1) * D ≤ x) × (x ≤ n * D)

@@ -1,3 +1,4 @@
+pub mod Cells
 pub mod Ranks
 pub mod Scale
 pub mod Placed

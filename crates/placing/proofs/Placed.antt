@@ -6,7 +6,7 @@ use native.Mathlib.Nat.{pos-of-ne-zero}
 use native.Mathlib.Omega.{arith}
 use borrow.Author.Tests.{eqb-false, ltb-false, not-false}
 use Rattle.spline.specs.Box.{places, width}
-use Rattle.spline.specs.Multiplicities.{degree}
+use Rattle.spline.specs.Multiplicities.{Multiplicities, degree}
 use Rattle.unit.proofs.Checks.{if-passed, or-false, room-passed, then-passed}
 use Rattle.unit.specs.Checks.{passedOr}
 use Rattle.unit.specs.Unit.{hasBlock, hasNet, netOf}
@@ -14,7 +14,8 @@ use Rattle.unit.specs.declared.Checked.{Checked}
 use Rattle.unit.specs.declared.Checked.the-variants.{Passed, Stopped}
 use Rattle.unit.specs.declared.Refusal.{Refusal}
 use Rattle.unit.specs.declared.Unit.{Unit}
-use Rattle.placing.specs.Place.{lentChecks, limit, placeAnswer, pointChecks, scale, unitChecks}
+use Rattle.placing.specs.Place.{divisorChecks, insideCheck, lentChecks, limit, placeAnswer}
+use Rattle.placing.specs.Place.{pointChecks, scale, unitChecks}
 use Rattle.placing.specs.Placing.{cells, inside, placing, sizes}
 use Rattle.placing.specs.declared.Placing.{Placing}
 use Rattle.placing.specs.declared.PlacingAnswer.the-variants as answers
@@ -52,26 +53,35 @@ module _ (u : Unit) (netLength correctionsLength uncertaintiesLength : ℕ) wher
         uncertainties-long = c .1;
       }
 
-pub record PointAccepted (u : Unit) (x y z D : ℕ) : Type 0 where
+pub record DivisorAccepted (v : Multiplicities) (D : ℕ) : Type 0 where
   pub some : 1 ≤ D
   pub few : D ≤ 4096
-  pub scaled : scale (degree (netOf u)) D ≤ limit
-  pub point-inside : inside (netOf u) (sizes u) (cells x y z D) ≡ true
+  pub scaled : scale (degree v) D ≤ limit
 
--- a point that passes 10, 11 and 12: its divisor is within limits, and its cell is inside
-pub point-accepted : (u : Unit) (x y z D : ℕ) → pointChecks u x y z D ≡ Passed → PointAccepted u x y z D
-unfolding pointChecks
-point-accepted u x y z D h =
+-- a divisor that passes 10 and 11 is within limits
+pub divisor-accepted : (v : Multiplicities) (D : ℕ) → divisorChecks v D ≡ Passed → DivisorAccepted v D
+unfolding divisorChecks
+divisor-accepted v D h =
     let a = if-passed 10 _ _ h in
     let b = if-passed 11 _ _ (a .1) in
-    let c = if-passed 12 _ _ (b .1) in
     let d = or-false _ _ (a .0) in
     record {
       some = pos-of-ne-zero (eqb-false _ _ (d .0));
       few = ltb-false _ _ (d .1);
       scaled = ltb-false _ _ (b .0);
-      point-inside = not-false _ (c .0);
     }
+
+pub record PointAccepted (u : Unit) (x y z D : ℕ) : Type 0 where
+  pub divisor : DivisorAccepted (netOf u) D
+  pub point-inside : inside (netOf u) (sizes u) (cells u x y z D) ≡ true
+
+-- a point that passes 10, 11 and 12: its divisor is within limits, and its cell is inside
+pub point-accepted : (u : Unit) (x y z D : ℕ) → pointChecks u x y z D ≡ Passed → PointAccepted u x y z D
+unfolding pointChecks insideCheck
+point-accepted u x y z D h =
+    let a = then-passed (divisorChecks (netOf u) D) _ h in
+    let b = if-passed 12 _ _ (a .1) in
+    record { divisor = divisor-accepted (netOf u) D (a .0); point-inside = not-false _ (b .0) }
 
 -- ---- what a placing call answered
 
@@ -92,10 +102,10 @@ module _ (u : Unit) (x y z D : ℕ) (e : unitChecks u ≡ Passed) where
   pub place-refused : {r : Refusal} → placeAnswer u x y z D ≡ answers.Refused r
       → pointChecks u x y z D ≡ Stopped r
   unfolding placeAnswer
-  place-refused h = refused-by (pointChecks u x y z D) (placing x y z D) (rw e at h)
+  place-refused h = refused-by (pointChecks u x y z D) (placing u x y z D) (rw e at h)
 
   -- and a placing is the point's, which has passed its checks
   pub place-placed : {q : Placing} → placeAnswer u x y z D ≡ answers.Placed q
-      → (pointChecks u x y z D ≡ Passed) × (q ≡ placing x y z D)
+      → (pointChecks u x y z D ≡ Passed) × (q ≡ placing u x y z D)
   unfolding placeAnswer
-  place-placed h = placed-by (pointChecks u x y z D) (placing x y z D) (rw e at h)
+  place-placed h = placed-by (pointChecks u x y z D) (placing u x y z D) (rw e at h)

@@ -2,17 +2,19 @@
 use mathlib.Core.Bool.{Bool, cond, false, true}
 use mathlib.Core.Logic.{_⊎_, inl, inr, ⊎-elim}
 use mathlib.Core.Path.{_≡_, refl, sym}
-use Prim.Native.Nat.{_%_, _<_, _≤_, ℕ}
-use native.Mathlib.Nat.{eq-or-lt-of-le, mod-lt}
+use Prim.Native.Nat.{_<_, _≤_, ℕ}
+use native.Mathlib.Nat.{eq-or-lt-of-le}
 use native.Mathlib.Omega.{arith}
 use borrow.Author.Tests.{leb-false, leb-true}
 use lib.Dec.{leb}
 use Rattle.spline.specs.Place.{Axis, a1, a2, a3}
+use Rattle.unit.specs.declared.Unit.{Unit}
+use Rattle.placing.proofs.Cells.{remainder-most}
 use Rattle.placing.specs.Inner.Ranking.{Axes, inOrder, o123, o132, o213, o231, o312, o321}
 use Rattle.placing.specs.Inner.Ranking.{ranked, ranking, thirdAmong, weightSum}
-use Rattle.placing.specs.Placing.{AxisRanks, axisNumber, axisRanks, placing, rankAxes, remainders}
+use Rattle.placing.specs.Placing.{AxisRanks, axisNumber, axisRanks, onAxes, placing, rankAxes}
 use Rattle.placing.specs.Placing.{withThird}
-use Rattle.placing.specs.declared.Ranking.{Ranking}
+use Rattle.placing.specs.declared.ranking.Ranking.{Ranking}
 
 -- axis 3 among two others is ranked as the definition has it
 pub third-ranked : (u : Axis → ℕ) (a b : Axis)
@@ -92,30 +94,35 @@ before-le : (u : Axis → ℕ) (a b : Axis) → Before u a b → u b ≤ u a
 before-le u a b (inl l) = omega arith
 before-le u a b (inr e) = omega arith
 
-below : (x y z D : ℕ) → 1 ≤ D → (b : Axis) → remainders x y z D b < D
-below x y z D h a1 = mod-lt x h
-below x y z D h a2 = mod-lt y h
-below x y z D h a3 = mod-lt z h
+-- three numbers that are each at most D
+all-most : {x y z D : ℕ} → x ≤ D → y ≤ D → z ≤ D → (b : Axis) → onAxes x y z b ≤ D
+all-most hx hy hz a1 = hx
+all-most hx hy hz a2 = hy
+all-most hx hy hz a3 = hz
 
-module _ (x y z D : ℕ) (h : 1 ≤ D) where
-  -- the ranked remainders of a point fall
-  pub point-falling : Falling D (ranked (x % D) (y % D) (z % D))
-  point-falling =
-      let u = remainders x y z D in
-      let o = rankAxes u in
-      let r = ordered u in
-      record {
-        most = omega (arith, below x y z D h (o .p));
-        first = before-le u (o .p) (o .r) (r .first);
-        second = before-le u (o .r) (o .s) (r .second);
-      }
+-- ranked remainders fall
+pub falling : (u1 u2 u3 D : ℕ) → u1 ≤ D → u2 ≤ D → u3 ≤ D → Falling D (ranked u1 u2 u3)
+falling u1 u2 u3 D h1 h2 h3 =
+    let u = onAxes u1 u2 u3 in
+    let o = rankAxes u in
+    let r = ordered u in
+    record {
+      most = all-most h1 h2 h3 (o .p);
+      first = before-le u (o .p) (o .r) (r .first);
+      second = before-le u (o .r) (o .s) (r .second);
+    }
 
+module _ (u : Unit) (x y z D : ℕ) where
   -- the weights of a point's placing add up to its divisor
-  pub weights-add-up : weightSum (placing x y z D) ≡ D
+  pub weights-add-up : 1 ≤ D → weightSum (placing u x y z D) ≡ D
   unfolding placing
-  weights-add-up = let f = point-falling in omega arith
+  weights-add-up h =
+      let f =
+      falling _ _ _ D (remainder-most x D (u .n1) h) (remainder-most y D (u .n2) h)
+      (remainder-most z D (u .n3) h) in
+      omega arith
 
--- the axes p, r, s of a placing are the three axes
-pub placing-axes : (x y z D : ℕ) → Axes (placing x y z D .p) (placing x y z D .r) (placing x y z D .s)
-unfolding placing
-placing-axes x y z D = ordered (remainders x y z D) .axes
+  -- the axes p, r, s of a placing are the three axes
+  pub placing-axes : Axes (placing u x y z D .p) (placing u x y z D .r) (placing u x y z D .s)
+  unfolding placing
+  placing-axes = ordered _ .axes

@@ -5,7 +5,8 @@ use Prim.Native.Nat.{_*_, _^_, ℕ}
 use lib.Dec.{eqb, ltb}
 use Rattle.sums.specs.Coefficient.{factorial}
 use Rattle.spline.specs.Box.{places, width}
-use Rattle.spline.specs.Multiplicities.{degree}
+use Rattle.spline.specs.Multiplicities.{Multiplicities, degree}
+use Rattle.spline.specs.Place.{Axis}
 use Rattle.unit.specs.Checks.{andThen, blockRoomCheck, passedOr, refuseIf}
 use Rattle.unit.specs.Unit.{hasBlock, hasNet, netOf}
 use Rattle.unit.specs.declared.Checked.{Checked}
@@ -35,15 +36,21 @@ lentChecks u netLength correctionsLength uncertaintiesLength =
     (refuseIf 4 (ltb netLength (places (width (netOf u))))
     (blockRoomCheck (places (sizes u)) correctionsLength uncertaintiesLength))
 
--- Section 5.3: 10 for a divisor out of bounds, 11 for one too large for the degree, 12 for a point that is
--- not inside
+-- Section 5.3: 10 for a divisor out of bounds, 11 for one too large for the degree
+unfoldable pub divisorChecks : Multiplicities → ℕ → Checked
+divisorChecks v D =
+    refuseIf 10 (eqb D 0 || ltb 4096 D) (refuseIf 11 (ltb limit (scale (degree v) D)) Passed)
+
+-- Section 5.3: 12 for a cell that is not inside
+unfoldable pub insideCheck : Multiplicities → (Axis → ℕ) → (Axis → ℕ) → Checked
+insideCheck v n k = refuseIf 12 (not (inside v n k)) Passed
+
+-- Section 5.3: 10, 11, 12
 unfoldable pub pointChecks : Unit → ℕ → ℕ → ℕ → ℕ → Checked
 pointChecks u x y z D =
-    refuseIf 10 (eqb D 0 || ltb 4096 D)
-    (refuseIf 11 (ltb limit (scale (degree (netOf u)) D))
-    (refuseIf 12 (not (inside (netOf u) (sizes u) (cells x y z D))) Passed))
+    andThen (divisorChecks (netOf u) D) (insideCheck (netOf u) (sizes u) (cells u x y z D))
 
 -- Section 9.5: the answer
 unfoldable pub placeAnswer : Unit → ℕ → ℕ → ℕ → ℕ → PlacingAnswer
 placeAnswer u x y z D =
-    passedOr (andThen (unitChecks u) (pointChecks u x y z D)) (Placed (placing x y z D)) Refused
+    passedOr (andThen (unitChecks u) (pointChecks u x y z D)) (Placed (placing u x y z D)) Refused

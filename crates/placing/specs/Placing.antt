@@ -1,10 +1,11 @@
 -- Where a point lies: its cell, the ranks of the axes and the four weights. Section 9.
 use mathlib.Core.Bool.{Bool, _&&_, cond}
-use Prim.Native.Nat.{_%_, _-_, _/_, ℕ}
-use lib.Dec.{leb}
+use Prim.Native.Nat.{_%_, _*_, _-_, _/_, ℕ}
+use lib.Dec.{eqb, leb}
 use Rattle.spline.specs.Multiplicities.{Multiplicities, extent}
 use Rattle.spline.specs.Place.{Axis, a1, a2, a3}
 use Rattle.unit.specs.declared.Unit.{Unit}
+use Rattle.placing.specs.declared.Located.{Located}
 use Rattle.placing.specs.declared.Placing.{Placing}
 
 -- a number for each axis
@@ -22,13 +23,17 @@ axisNumber a3 = 3
 abbrev pub sizes : Unit → Axis → ℕ
 sizes u = onAxes (u .n1) (u .n2) (u .n3)
 
--- Section 9.1: the cell
-abbrev pub cells : ℕ → ℕ → ℕ → ℕ → Axis → ℕ
-cells x y z D = onAxes (x / D) (y / D) (z / D)
+-- Section 9.1: cell and remainder of a coordinate over D, on an axis with n entries; the far face, at n×D,
+-- belongs to the last cell
+unfoldable pub located : ℕ → ℕ → ℕ → Located
+located x D n =
+    cond (eqb x (n * D)) (record { cell = n - 1; remainder = D })
+    (record { cell = x / D; remainder = x % D })
 
--- Section 9.1: the remainders
-abbrev pub remainders : ℕ → ℕ → ℕ → ℕ → Axis → ℕ
-remainders x y z D = onAxes (x % D) (y % D) (z % D)
+-- Section 9.1: the cell of X, Y, Z over D in a unit's block
+abbrev pub cells : Unit → ℕ → ℕ → ℕ → ℕ → Axis → ℕ
+cells u x y z D =
+    onAxes (located x D (u .n1) .cell) (located y D (u .n2) .cell) (located z D (u .n3) .cell)
 
 -- Section 9.2: inside on an axis
 abbrev pub insideOn : ℕ → ℕ → ℕ → Bool
@@ -75,10 +80,15 @@ placingBy k u D o = record {
   l3 = u (o .s);
 }
 
--- Section 9.4: the placing of X, Y, Z over D
-unfoldable pub placing : ℕ → ℕ → ℕ → ℕ → Placing
-placing x y z D =
-    placingBy (cells x y z D) (remainders x y z D) D (rankAxes (remainders x y z D))
+-- Section 9.4: the placing of a point over D, located on each axis
+abbrev pub placingOn : Located → Located → Located → ℕ → Placing
+placingOn x y z D =
+    let u = onAxes (x .remainder) (y .remainder) (z .remainder) in
+    placingBy (onAxes (x .cell) (y .cell) (z .cell)) u D (rankAxes u)
+
+-- Section 9.4: the placing of X, Y, Z over D in a unit's block
+unfoldable pub placing : Unit → ℕ → ℕ → ℕ → ℕ → Placing
+placing u x y z D = placingOn (located x D (u .n1)) (located y D (u .n2)) (located z D (u .n3)) D
 
 -- k of a placing
 abbrev pub placingCell : Placing → Axis → ℕ

@@ -5,14 +5,15 @@ ghost use mathlib.Core.Bool.{true};
 ghost use Prim.Native.Nat.{_+_, _≤_};
 ghost use lib.Dec.{leb};
 ghost use Rattle.unit.specs.Unit.{netOf, hasNet, hasBlock};
-ghost use Rattle.placing.specs.Placing.{inside, insideOn, onAxes, placing, sizes};
-ghost use Rattle.placing.specs.Inner.Ranking.{ranked, thirdAmong};
-ghost use Rattle.placing.specs.Place.{scale, limit, lentChecks, unitChecks, pointChecks};
-ghost use Rattle.placing.specs.Place.{placeAnswer};
+ghost use Rattle.placing.specs.Placing.{insideOn, located, onAxes, placingOn, sizes};
+ghost use Rattle.placing.specs.Place.{divisorChecks, insideCheck, lentChecks, limit, placeAnswer};
+ghost use Rattle.placing.specs.Place.{scale, unitChecks};
 use shape::Counts;
 use unit::Checked;
 use unit::Refusal;
 use unit::Unit;
+
+mod ranking;
 
 // The largest m!×D^m: 2^48.
 const SCALE: u64 = 281474976710656;
@@ -37,70 +38,40 @@ pub enum PlacingAnswer {
     Refused(Refusal),
 }
 
-// The axes p, r, s and their remainders.
-struct Ranking {
-    p: u8,
-    r: u8,
-    s: u8,
-    up: u32,
-    ur: u32,
-    us: u32,
+// Cell and remainder of a coordinate.
+struct Located {
+    cell: u32,
+    remainder: u32,
 }
 
-// Axis 3 among two axes in order, a first, each given by its number and its remainder.
-fn with_third(a: u8, ua: u32, b: u8, ub: u32, u3: u32) -> Ranking
-    ensures { λ t. ⌜ t ≡ thirdAmong a ua b ub u3 ⌝ }
+// Where a coordinate lies on an axis with so many entries.
+fn locate(x: u32, divisor: u32, size: u16) -> Located
+    requires { ⌜ (1 ≤ divisor) × (divisor ≤ 4096) × (1 ≤ size) ⌝ }
+    ensures { λ r. ⌜ r ≡ located x divisor size ⌝ }
 {
-    if u3 <= ub {
-        return Ranking {
-            p: a,
-            r: b,
-            s: 3,
-            up: ua,
-            ur: ub,
-            us: u3,
+    let n = size as u32;
+    if x == n * divisor {
+        return Located {
+            cell: n - 1,
+            remainder: divisor,
         };
     }
-    if u3 <= ua {
-        return Ranking {
-            p: a,
-            r: 3,
-            s: b,
-            up: ua,
-            ur: u3,
-            us: ub,
-        };
-    }
-    Ranking {
-        p: 3,
-        r: a,
-        s: b,
-        up: u3,
-        ur: ua,
-        us: ub,
+    Located {
+        cell: x / divisor,
+        remainder: x % divisor,
     }
 }
 
-// The axes with the largest remainder first, ties by the lower axis.
-fn rank(u1: u32, u2: u32, u3: u32) -> Ranking
-    ensures { λ t. ⌜ t ≡ ranked u1 u2 u3 ⌝ }
+// The placing of a point, located on each axis.
+fn placing_of(x: Located, y: Located, z: Located, divisor: u32) -> Placing
+    requires { ⌜ (x .remainder ≤ divisor) × (y .remainder ≤ divisor) × (z .remainder ≤ divisor) ⌝ }
+    ensures { λ q. ⌜ q ≡ placingOn x y z divisor ⌝ }
 {
-    if u2 <= u1 {
-        return with_third(1, u1, 2, u2, u3);
-    }
-    with_third(2, u2, 1, u1, u3)
-}
-
-// The placing of a point over a divisor that is not 0.
-fn placing_of(x: u32, y: u32, z: u32, divisor: u32) -> Placing
-    requires { ⌜ 1 ≤ divisor ⌝ }
-    ensures { λ q. ⌜ q ≡ placing x y z divisor ⌝ }
-{
-    let t = rank(x % divisor, y % divisor, z % divisor);
+    let t = ranking::rank(x.remainder, y.remainder, z.remainder);
     Placing {
-        k1: x / divisor,
-        k2: y / divisor,
-        k3: z / divisor,
+        k1: x.cell,
+        k2: y.cell,
+        k3: z.cell,
         p: t.p,
         r: t.r,
         s: t.s,
@@ -142,18 +113,21 @@ fn inside_on(v: u8, v4: u8, size: u16, k: u32) -> bool
     k < size as usize
 }
 
-// Whether a cell is inside.
-fn is_inside(unit: Unit, k1: u32, k2: u32, k3: u32) -> bool
+// Check 12, by the cell.
+fn check_inside(unit: Unit, k1: u32, k2: u32, k3: u32) -> Checked
     requires { ⌜ hasBlock unit ≡ true ⌝ }
-    ensures { λ r. ⌜ r ≡ inside (netOf unit) (sizes unit) (onAxes k1 k2 k3) ⌝ }
+    ensures { λ r. ⌜ r ≡ insideCheck (netOf unit) (sizes unit) (onAxes k1 k2 k3) ⌝ }
 {
     if !inside_on(unit.v1, unit.v4, unit.n1, k1) {
-        return false;
+        return Checked::stop(12, 0);
     }
     if !inside_on(unit.v2, unit.v4, unit.n2, k2) {
-        return false;
+        return Checked::stop(12, 0);
     }
-    inside_on(unit.v3, unit.v4, unit.n3, k3)
+    if !inside_on(unit.v3, unit.v4, unit.n3, k3) {
+        return Checked::stop(12, 0);
+    }
+    Checked::Passed
 }
 
 // Checks 21 and 22.
@@ -183,10 +157,10 @@ pub fn check_lent(unit: Unit, net: usize, corrections: usize, uncertainties: usi
     unit::check_block_room(n, corrections, uncertainties)
 }
 
-// Checks 10, 11 and 12.
-fn check_point(unit: Unit, x: u32, y: u32, z: u32, divisor: u32) -> Checked
-    requires { ⌜ (hasNet unit ≡ true) × (hasBlock unit ≡ true) ⌝ }
-    ensures { λ r. ⌜ r ≡ pointChecks unit x y z divisor ⌝ }
+// Checks 10 and 11.
+fn check_divisor(unit: Unit, divisor: u32) -> Checked
+    requires { ⌜ hasNet unit ≡ true ⌝ }
+    ensures { λ r. ⌜ r ≡ divisorChecks (netOf unit) divisor ⌝ }
 {
     if divisor == 0 {
         return Checked::stop(10, 0);
@@ -196,9 +170,6 @@ fn check_point(unit: Unit, x: u32, y: u32, z: u32, divisor: u32) -> Checked
     }
     if !scale_allowed(shape::degree_of(Counts::of_unit(unit)), divisor) {
         return Checked::stop(11, 0);
-    }
-    if !is_inside(unit, x / divisor, y / divisor, z / divisor) {
-        return Checked::stop(12, 0);
     }
     Checked::Passed
 }
@@ -210,8 +181,14 @@ pub fn place(unit: Unit, x: u32, y: u32, z: u32, divisor: u32) -> PlacingAnswer
     if let Checked::Stopped(refusal) = check_unit(unit) {
         return PlacingAnswer::Refused(refusal);
     }
-    if let Checked::Stopped(refusal) = check_point(unit, x, y, z, divisor) {
+    if let Checked::Stopped(refusal) = check_divisor(unit, divisor) {
         return PlacingAnswer::Refused(refusal);
     }
-    PlacingAnswer::Placed(placing_of(x, y, z, divisor))
+    let a = locate(x, divisor, unit.n1);
+    let b = locate(y, divisor, unit.n2);
+    let c = locate(z, divisor, unit.n3);
+    if let Checked::Stopped(refusal) = check_inside(unit, a.cell, b.cell, c.cell) {
+        return PlacingAnswer::Refused(refusal);
+    }
+    PlacingAnswer::Placed(placing_of(a, b, c, divisor))
 }

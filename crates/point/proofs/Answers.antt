@@ -64,7 +64,7 @@ chained Passed Passed c f = refl
 
 module _ (u : Unit) (net : List ℕ) (corrections : List ℤ) (uncertainties : List ℕ) (x y z D : ℕ) where
   abbrev q : Placing
-  q = placing x y z D
+  q = placing u x y z D
 
   abbrev checks : Checked
   checks = blendChecks u net corrections uncertainties x y z D
@@ -125,16 +125,16 @@ module _ (u : Unit) (net : List ℕ) (corrections : List ℤ) (uncertainties : L
 
     -- the divisor is not 0
     pub divisor-some : 1 ≤ D
-    divisor-some = point-accepted u x y z D (parts .1) .some
+    divisor-some = point-accepted u x y z D (parts .1) .divisor .some
 
     -- the weights of the placing are within their limits
     pub scaled-of : Scaled (degree (netOf u)) q
     scaled-of =
-        let p = point-accepted u x y z D (parts .1) in
+        let p = point-accepted u x y z D (parts .1) .divisor in
         record {
           degree = degree-few;
-          some = rw (weights-add-up x y z D (p .some)) (p .some);
-          scaled = rw (weights-add-up x y z D (p .some)) (p .scaled);
+          some = rw (weights-add-up u x y z D (p .some)) (p .some);
+          scaled = rw (weights-add-up u x y z D (p .some)) (p .scaled);
         }
 
     -- the array of shifts holds the blended corrections

@@ -37,5 +37,5 @@ pointAnswer u net corrections uncertainties x y z D =
     passedOr
     (andThen (lentChecks u (length net) (length corrections) (length uncertainties)) (pointChecks u x y z D))
     (valueAnswer (netOf u) n (numberAt net) (correctionAt n corrections) (uncertaintyAt n uncertainties)
-    (placing x y z D) D)
+    (placing u x y z D) D)
     Refused

@@ -2,6 +2,7 @@
 
 mod builds;
 mod damage;
+mod faces;
 mod inspections;
 mod loads;
 mod points;
@@ -52,10 +53,11 @@ fn all_nets(wanted: &BTreeSet<Multiplicities>) -> (String, Shelf) {
 }
 
 fn make() -> Vec<Vectors> {
-    let lists = [points::shapes(), refusals::shapes(), damage::shapes(), inspections::shapes(), whole::shapes()];
-    let wanted = lists.into_iter().flatten().collect();
+    let of_points = [points::shapes(), faces::shapes(), refusals::shapes(), damage::shapes()].concat();
+    let wanted = [of_points, inspections::shapes(), whole::shapes()].into_iter().flatten().collect();
     let (digests, shelf) = all_nets(&wanted);
-    let points = [scene::HEADER.to_string(), points::text(&shelf), refusals::text(&shelf), damage::text(&shelf)];
+    let scenes = [points::scenes(), faces::scenes(), refusals::scenes(&shelf), damage::scenes(&shelf)];
+    let points = scenes.iter().flatten().map(|scene| scene.text(&shelf));
     vec![
         Vectors { name: "nets.txt", text: digests },
         Vectors { name: "whole-nets.txt", text: whole::nets(&shelf) },
@@ -63,7 +65,7 @@ fn make() -> Vec<Vectors> {
         Vectors { name: "builds.txt", text: builds::text() },
         Vectors { name: "inspections.txt", text: inspections::text(&shelf) },
         Vectors { name: "loads.txt", text: loads::text() },
-        Vectors { name: "points.txt", text: points.concat() },
+        Vectors { name: "points.txt", text: scene::HEADER.to_string() + &points.collect::<String>() },
     ]
 }
 
@@ -84,6 +86,7 @@ pub fn stale(directory: &Path) -> Vec<&'static str> {
 #[cfg(test)]
 mod tests {
     use super::*;
+    use crate::point::{self, largest_divisor};
 
     fn has_refusal(text: &str, number: u8) -> bool {
         text.lines().any(|line| line.contains(&format!(" refused {number} ")) && !line.starts_with('#'))
@@ -92,7 +95,8 @@ mod tests {
     #[test]
     fn each_refusal_has_a_case() {
         let shelf = Shelf { nets: refusals::shapes().into_iter().map(|v| (v, Net::of(v))).collect() };
-        let texts = [builds::text(), loads::text(), refusals::text(&shelf)];
+        let points = refusals::scenes(&shelf).iter().map(|scene| scene.text(&shelf)).collect();
+        let texts = [builds::text(), loads::text(), points];
         let numbers = [vec![1, 2, 4], vec![5, 6, 7, 8, 9], vec![21, 22, 4, 9, 10, 11, 12, 13, 23]];
         for (text, numbers) in texts.iter().zip(numbers) {
             assert!(numbers.into_iter().all(|number| has_refusal(text, number)));
@@ -105,5 +109,21 @@ mod tests {
         let degrees: BTreeSet<usize> = shapes.iter().map(Multiplicities::degree).collect();
         assert!(shapes.len() >= 40);
         assert!(degrees.into_iter().eq(1..=9));
+    }
+
+    #[test]
+    fn far_faces_are_answered_at_each_degree_and_kind_of_divisor() {
+        let mut kinds = BTreeSet::new();
+        for scene in points::scenes().into_iter().chain(faces::scenes()) {
+            let largest = largest_divisor(scene.net.degree());
+            for case in scene.cases.iter().filter(|case| point::answer(&scene.call(case)).is_ok()) {
+                let far = scene.moved_far(case.coordinates, faces::WAYS[6], case.divisor);
+                let axes: Vec<usize> = (0..3).filter(|&b| case.coordinates[b] == far[b]).collect();
+                let kind = if case.divisor == largest { Some(0) } else { (case.divisor <= 4).then_some(1) };
+                kinds.extend(kind.map(|kind| (scene.net.degree(), axes, kind)));
+            }
+        }
+        let asked = |degree, axes: &[usize], kind| kinds.contains(&(degree, axes.to_vec(), kind));
+        assert!((1..=9).all(|degree| faces::WAYS.iter().all(|axes| asked(degree, axes, 0) && asked(degree, axes, 1))));
     }
 }

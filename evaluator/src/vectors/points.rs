@@ -1,7 +1,7 @@
 //! Points over defined nets of every degree: the figures worked by hand, any points, and the largest numbers.
 
-use super::scene::Scene;
-use super::{Shelf, shape};
+use super::scene::{Scene, coordinates};
+use super::{faces, shape};
 use crate::field::{Block, NEVER_MEASURED};
 use crate::net::Multiplicities;
 use crate::point::largest_divisor;
@@ -30,12 +30,16 @@ pub fn shapes() -> Vec<Multiplicities> {
     [spread(), large()].concat()
 }
 
-pub fn text(shelf: &Shelf) -> String {
-    let mut random = Random::new(1);
+pub fn scenes() -> Vec<Scene> {
+    let (mut random, mut random_far) = (Random::new(1), Random::new(4));
     let mut scenes = figures();
-    scenes.extend(spread().into_iter().enumerate().map(|(number, v)| any_scene(v, number, &mut random)));
+    for (number, v) in spread().into_iter().enumerate() {
+        let mut scene = any_scene(v, number, &mut random);
+        faces::ask_each_way(&mut scene, number, &mut random_far);
+        scenes.push(scene);
+    }
     scenes.extend(large().into_iter().flat_map(|v| large_scenes(v, &mut random)));
-    scenes.iter().map(|scene| scene.text(shelf)).collect()
+    scenes
 }
 
 /// The points worked by hand: docs/SPECIFICATION.md, 14.6.
@@ -43,7 +47,7 @@ fn figures() -> Vec<Scene> {
     let mut block = Block::constant(Sizes::new([2, 2, 2]).expect("within the limits"), 0, 5);
     (block.corrections[0], block.corrections[1]) = (100, -40);
     let mut measured = Scene::new(shape([1; 4]), block.clone());
-    for (coordinates, divisor) in [([1, 1, 1], 1), ([3, 2, 2], 2), ([0, 1, 1], 1), ([2, 1, 1], 1)] {
+    for (coordinates, divisor) in [([1, 1, 1], 1), ([3, 2, 2], 2), ([0, 1, 1], 1), ([2, 1, 1], 1), ([3, 1, 1], 1)] {
         measured.ask(coordinates, divisor);
     }
     block.corrections[1] = NEVER_MEASURED;
@@ -73,18 +77,8 @@ fn any_scene(v: Multiplicities, number: usize, random: &mut Random) -> Scene {
     }
     let mut scene = Scene::new(v, block);
     ask_inside(&mut scene, random);
-    ask_outside(&mut scene);
+    ask_ends(&mut scene);
     scene
-}
-
-/// A coordinate for each axis from cube and remainder.
-fn coordinates(cube: [usize; 3], remainder: [u32; 3], divisor: u32) -> [u32; 3] {
-    [0, 1, 2].map(|b| cube[b] as u32 * divisor + remainder[b])
-}
-
-fn any_cube(scene: &Scene, random: &mut Random) -> [usize; 3] {
-    let (extents, axes) = (scene.net.extents(), scene.block.sizes.axes());
-    [0, 1, 2].map(|b| random.between(extents[b] - 1, axes[b] - 1))
 }
 
 /// The extreme vertices, and points with each kind of equal remainders at small, middle and largest divisors.
@@ -92,8 +86,7 @@ fn ask_inside(scene: &mut Scene, random: &mut Random) {
     let largest = largest_divisor(scene.net.degree());
     scene.ask(scene.net.extents().map(|e| e as u32 - 1), 1);
     scene.ask(scene.block.sizes.axes().map(|n| n as u32 - 1), 1);
-    let last = scene.block.sizes.axes().map(|n| n - 1);
-    scene.ask(coordinates(last, [largest - 1; 3], largest), largest);
+    scene.ask(coordinates(scene.last_cell(), [largest - 1; 3], largest), largest);
     for kind in 0..8 {
         let divisor = if kind < 2 { largest } else { random.between(2, largest as usize) as u32 };
         let [a, b, c] = [0; 3].map(|_: u32| random.below(divisor.into()) as u32);
@@ -105,21 +98,21 @@ fn ask_inside(scene: &mut Scene, random: &mut Random) {
             6 => [0, a, b],
             _ => [a, b, c],
         };
-        let cube = any_cube(scene, random);
-        scene.ask(coordinates(cube, remainder, divisor), divisor);
+        let cell = scene.any_cell(random);
+        scene.ask(coordinates(cell, remainder, divisor), divisor);
     }
 }
 
-/// Just outside on a low and on a high face, far outside, and a divisor that is just too large.
-fn ask_outside(scene: &mut Scene) {
-    let (extents, axes) = (scene.net.extents(), scene.block.sizes.axes());
+/// Just below the low end of an axis, on its far face and just past it, far outside, and a divisor just too large.
+fn ask_ends(scene: &mut Scene) {
     let largest = largest_divisor(scene.net.degree());
-    let axis = extents.iter().sum::<usize>() % 3;
-    let inside = coordinates(extents.map(|e| e - 1), [0; 3], largest);
-    let (mut below, mut above) = (inside, inside);
+    let axis = scene.net.extents().iter().sum::<usize>() % 3;
+    let inside = coordinates(scene.first_cell(), [0; 3], largest);
+    let far = scene.moved_far(inside, &[axis], largest);
+    let (mut below, mut past) = (inside, far);
     below[axis] -= 1;
-    above[axis] = axes[axis] as u32 * largest;
-    for point in [below, above, [u32::MAX; 3]] {
+    past[axis] += 1;
+    for point in [below, far, past, [u32::MAX; 3]] {
         scene.ask(point, largest);
     }
     scene.ask(inside, largest + 1);
@@ -133,9 +126,10 @@ fn large_scenes(v: Multiplicities, random: &mut Random) -> Vec<Scene> {
     let scene = |(correction, uncertainty)| {
         let mut scene = Scene::new(v, Block::constant(sizes, correction, uncertainty));
         let remainders = [[0; 3], [largest - 1; 3], [largest / 2, largest / 3, largest / 5]];
-        for remainder in remainders {
-            let cube = any_cube(&scene, random);
-            scene.ask(coordinates(cube, remainder, largest), largest);
+        for (remainder, axes) in remainders.into_iter().zip([&[0, 1, 2][..], &[1, 2], &[0]]) {
+            let point = coordinates(scene.any_cell(random), remainder, largest);
+            scene.ask(point, largest);
+            scene.ask(scene.moved_far(point, axes, largest), largest);
         }
         scene
     };

@@ -1,4 +1,5 @@
-//! Each refusal of the point call alone and together with each other one, which shows the order of the checks.
+//! Each refusal of the point call alone and together with each other one, which shows the order of the checks; and on a
+//! far face, where it is alone or with what is found in the window.
 
 use super::scene::{Case, Scene};
 use super::{Shelf, shape};
@@ -9,6 +10,8 @@ use crate::random::Random;
 use crate::unit::{Sizes, Unit};
 
 const CHECKS: [u8; 9] = [21, 22, 4, 9, 10, 11, 12, 13, 23];
+const SIZES: [usize; 3] = [4, 5, 3];
+const DIVISOR: u32 = 10;
 
 /// Of a degree where 11 can apply without 10.
 fn net() -> Multiplicities {
@@ -19,9 +22,9 @@ pub fn shapes() -> Vec<Multiplicities> {
     vec![net()]
 }
 
-pub fn text(shelf: &Shelf) -> String {
+pub fn scenes(shelf: &Shelf) -> Vec<Scene> {
     let kinds = [(false, false), (true, false), (false, true), (true, true)];
-    kinds.map(|(has_gap, is_damaged)| scene(has_gap, is_damaged, shelf).text(shelf)).concat()
+    Vec::from(kinds.map(|(has_gap, is_damaged)| scene(has_gap, is_damaged, shelf)))
 }
 
 /// The pairs of checks, each also with itself; the earlier one is first.
@@ -29,9 +32,23 @@ fn pairs() -> impl Iterator<Item = [u8; 2]> {
     (0..CHECKS.len()).flat_map(|i| (i..CHECKS.len()).map(move |j| [CHECKS[i], CHECKS[j]]))
 }
 
+/// The point that a call asks, by its divisor.
+type PointAt = fn(u32) -> [u32; 3];
+
+/// The lowest point inside.
+fn inside(divisor: u32) -> [u32; 3] {
+    net().extents().map(|e| (e as u32 - 1).saturating_mul(divisor))
+}
+
+/// The same on the far face of axis 3.
+fn far(divisor: u32) -> [u32; 3] {
+    let [x, y, _] = inside(divisor);
+    [x, y, (SIZES[2] as u32).saturating_mul(divisor)]
+}
+
 /// The pairs that have 13 exactly where the block has a gap, and 23 exactly where the net is damaged.
 fn scene(has_gap: bool, is_damaged: bool, shelf: &Shelf) -> Scene {
-    let sizes = Sizes::new([4, 5, 3]).expect("within the limits");
+    let sizes = Sizes::new(SIZES).expect("within the limits");
     let mut scene = Scene::new(net(), Block::random(sizes, &mut Random::new(2)));
     if has_gap {
         scene.block.corrections[7..9].fill(NEVER_MEASURED);
@@ -39,35 +56,36 @@ fn scene(has_gap: bool, is_damaged: bool, shelf: &Shelf) -> Scene {
     if is_damaged {
         scene.changes.push((0, 1));
     }
+    let is_sound = !has_gap && !is_damaged;
     let lent_numbers = scene.lent_numbers(shelf);
-    for pair in pairs().filter(|p| p.contains(&13) == has_gap && p.contains(&23) == is_damaged) {
-        let cases = cases(&scene, pair);
+    let own: Vec<_> = pairs().filter(|p| p.contains(&13) == has_gap && p.contains(&23) == is_damaged).collect();
+    let asked = own.iter().map(|pair| (*pair, inside as PointAt));
+    let asked_far = own.iter().filter(|p| !is_sound || p[0] == p[1]).map(|pair| (*pair, far as PointAt));
+    for (pair, point_at) in asked.chain(asked_far) {
+        let cases = cases(&scene, pair, point_at);
         for case in &cases {
             let refusal = scene.answer(case, &lent_numbers).expect_err("a fault is refused");
             assert_eq!(refusal.number, pair[0], "the earlier of {pair:?}");
         }
         scene.cases.extend(cases);
     }
+    if is_sound {
+        scene.ask(far(DIVISOR), DIVISOR);
+    }
     scene
 }
 
 /// The call that would be answered but for the scene's gap and damage, with the faults of the pair.
-fn cases(scene: &Scene, pair: [u8; 2]) -> Vec<Case> {
-    let divisor = 10;
-    let sound = scene.case(inside(divisor), divisor);
-    let first: Vec<Case> = with_fault(sound, pair[0]);
+fn cases(scene: &Scene, pair: [u8; 2], point_at: PointAt) -> Vec<Case> {
+    let sound = scene.case(point_at(DIVISOR), DIVISOR);
+    let first: Vec<Case> = with_fault(sound, pair[0], point_at);
     if pair[0] == pair[1] {
         return first;
     }
-    first.into_iter().flat_map(|case| with_fault(case, pair[1])).collect()
+    first.into_iter().flat_map(|case| with_fault(case, pair[1], point_at)).collect()
 }
 
-/// The lowest point inside.
-fn inside(divisor: u32) -> [u32; 3] {
-    net().extents().map(|e| (e as u32 - 1).saturating_mul(divisor))
-}
-
-fn with_fault(case: Case, number: u8) -> Vec<Case> {
+fn with_fault(case: Case, number: u8, point_at: PointAt) -> Vec<Case> {
     let Case { unit, lengths, .. } = case;
     let with_units = |units: Vec<Unit>| units.into_iter().map(|unit| Case { unit, ..case }).collect();
     let with_lengths = |all: Vec<[usize; 3]>| all.into_iter().map(|lengths| Case { lengths, ..case }).collect();
@@ -77,10 +95,10 @@ fn with_fault(case: Case, number: u8) -> Vec<Case> {
         22 => with_units(units_without_block(unit)),
         4 => with_lengths(vec![[net().places() - 1, lengths[1], lengths[2]], [0, lengths[1], lengths[2]]]),
         9 => with_lengths(vec![[lengths[0], lengths[1] - 1, lengths[2]], [lengths[0], lengths[1], lengths[2] - 1]]),
-        10 => with_divisors(case, &[0, LARGEST_DIVISOR + 1, u32::MAX]),
+        10 => with_divisors(case, &[0, LARGEST_DIVISOR + 1, u32::MAX], point_at),
         // Where 10 applies too, the divisor stays.
         11 if case.divisor > LARGEST_DIVISOR || case.divisor == 0 => vec![case],
-        11 => with_divisors(case, &[largest + 1, LARGEST_DIVISOR]),
+        11 => with_divisors(case, &[largest + 1, LARGEST_DIVISOR], point_at),
         12 => outside(case),
         _ => vec![case],
     }
@@ -98,9 +116,9 @@ fn units_without_block(unit: Unit) -> Vec<Unit> {
     units
 }
 
-/// The same cube at other divisors.
-fn with_divisors(case: Case, divisors: &[u32]) -> Vec<Case> {
-    divisors.iter().map(|&divisor| Case { coordinates: inside(divisor), divisor, ..case }).collect()
+/// The same cell at other divisors.
+fn with_divisors(case: Case, divisors: &[u32], point_at: PointAt) -> Vec<Case> {
+    divisors.iter().map(|&divisor| Case { coordinates: point_at(divisor), divisor, ..case }).collect()
 }
 
 /// Outside by one on the low side of an axis, and on the high side of another.
@@ -110,6 +128,6 @@ fn outside(case: Case) -> Vec<Case> {
         coordinates[axis] = coordinate;
         Case { coordinates, ..case }
     };
-    let high = u32::from(case.unit.n[2]).saturating_mul(case.divisor);
-    vec![moved(0, case.coordinates[0].saturating_sub(1)), moved(2, high)]
+    let past = u32::from(case.unit.n[1]).saturating_mul(case.divisor).saturating_add(1);
+    vec![moved(0, case.coordinates[0].saturating_sub(1)), moved(1, past)]
 }

@@ -6,6 +6,7 @@ use crate::formats::{join, number_lines};
 use crate::lent;
 use crate::net::Multiplicities;
 use crate::point::{self, Call, Fraction};
+use crate::random::Random;
 use crate::unit::{Refusal, Unit};
 
 pub const HEADER: &str = "\
@@ -26,6 +27,11 @@ pub fn slice(numbers: &[u32], length: usize) -> Vec<u32> {
     let mut slice = numbers.to_vec();
     slice.resize(length, u32::MAX);
     slice
+}
+
+/// A coordinate for each axis from cell and remainder.
+pub fn coordinates(cell: [usize; 3], remainder: [u32; 3], divisor: u32) -> [u32; 3] {
+    [0, 1, 2].map(|b| cell[b] as u32 * divisor + remainder[b])
 }
 
 /// One call, apart from the numbers lent to it.
@@ -61,6 +67,28 @@ impl Scene {
         self.cases.push(self.case(coordinates, divisor));
     }
 
+    /// The lowest cell inside.
+    pub fn first_cell(&self) -> [usize; 3] {
+        self.net.extents().map(|e| e - 1)
+    }
+
+    pub fn last_cell(&self) -> [usize; 3] {
+        self.block.sizes.axes().map(|n| n - 1)
+    }
+
+    pub fn any_cell(&self, random: &mut Random) -> [usize; 3] {
+        let (first, last) = (self.first_cell(), self.last_cell());
+        [0, 1, 2].map(|b| random.between(first[b], last[b]))
+    }
+
+    /// The point moved to the far faces of these axes.
+    pub fn moved_far(&self, mut point: [u32; 3], axes: &[usize], divisor: u32) -> [u32; 3] {
+        for &b in axes {
+            point[b] = self.block.sizes.axes()[b] as u32 * divisor;
+        }
+        point
+    }
+
     pub fn lent_numbers(&self, shelf: &Shelf) -> Vec<u32> {
         let mut numbers = shelf.net(self.net).numbers.clone();
         for &(index, number) in &self.changes {
@@ -69,14 +97,17 @@ impl Scene {
         numbers
     }
 
+    pub fn call(&self, case: &Case) -> Call<'_> {
+        let Case { unit, lengths: [net_length, c, u], coordinates, divisor } = *case;
+        let (corrections, uncertainties) = (&self.block.corrections[..c], &self.block.uncertainties[..u]);
+        Call { unit, net_length, corrections, uncertainties, coordinates, divisor }
+    }
+
     /// The answer from the lent numbers; where these are the unit's own net, the recurrence must say the same.
     pub fn answer(&self, case: &Case, lent_numbers: &[u32]) -> Result<Fraction, Refusal> {
-        let Case { unit, lengths, coordinates, divisor } = *case;
-        let corrections = &self.block.corrections[..lengths[1]];
-        let uncertainties = &self.block.uncertainties[..lengths[2]];
-        let call = Call { unit, net_length: lengths[0], corrections, uncertainties, coordinates, divisor };
-        let answer = lent::answer(&call, &slice(lent_numbers, lengths[0]));
-        if self.changes.is_empty() && unit.net().is_none_or(|v| v == self.net) {
+        let call = self.call(case);
+        let answer = lent::answer(&call, &slice(lent_numbers, call.net_length));
+        if self.changes.is_empty() && call.unit.net().is_none_or(|v| v == self.net) {
             assert_eq!(answer, point::answer(&call), "the net and the recurrence agree");
         }
         answer

@@ -50,6 +50,14 @@ fn denominator(degree: usize, divisor: u32) -> Option<u64> {
     })
 }
 
+/// k and u. The far face belongs to the last cell; asked before the division, it costs next to nothing.
+fn split(coordinate: u32, size: usize, divisor: u32) -> (usize, u64) {
+    if coordinate == size as u32 * divisor {
+        return (size - 1, divisor.into());
+    }
+    ((coordinate / divisor) as usize, (coordinate % divisor).into())
+}
+
 /// Checks 10, 11, 12.
 pub fn place(
     shape: &Shape,
@@ -61,12 +69,13 @@ pub fn place(
         return refuse(10);
     }
     let Some(denominator) = denominator(shape.degree, divisor) else { return refuse(11) };
-    let cell = coordinates.map(|c| (c / divisor) as usize);
+    let split = [0, 1, 2].map(|b| split(coordinates[b], sizes[b], divisor));
+    let cell = split.map(|(cell, _)| cell);
     let inside = (0..3).all(|b| shape.extents[b] <= cell[b] + 1 && cell[b] < sizes[b]);
     if !inside {
         return refuse(12);
     }
-    let rest = coordinates.map(|c| u64::from(c % divisor));
+    let rest = split.map(|(_, rest)| rest);
     let mut axes = [0, 1, 2];
     // Stable: of equal remainders the lower axis stays first.
     axes.sort_by(|&a, &b| rest[b].cmp(&rest[a]));

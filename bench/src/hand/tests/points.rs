@@ -7,6 +7,15 @@ use std::collections::BTreeSet;
 const CALLS: usize = 20_000;
 const PLACES: usize = 41 * 41 * 41;
 
+/// The coordinate, or now and then that of the far face of a block of this size, or one past it.
+fn or_far(coordinate: u32, size: u32, divisor: u32, random: &mut Random) -> u32 {
+    match random.below(8) {
+        0 | 1 => size * divisor,
+        2 => size * divisor + 1,
+        _ => coordinate,
+    }
+}
+
 /// The number of the library's refusal, 0 for none, where all agree.
 fn agreed(call: &Call) -> u32 {
     let &Call { unit, net, corrections, uncertainties, coordinates, divisor } = call;
@@ -46,7 +55,10 @@ fn points_agree() {
             corrections[random.between(0, 215)] = i16::MIN;
         }
         let divisor = pick(&mut random, &[1, 2, 3, 7, 64, 64, 297, 0, 4096, 4097]);
-        let coordinates = [0; 3].map(|_| random.below(6 * u64::from(divisor) + 1) as u32);
+        let coordinates = [unit.n1, unit.n2, unit.n3].map(|n| {
+            let any = random.below(6 * u64::from(divisor) + 1) as u32;
+            or_far(any, n.into(), divisor, &mut random)
+        });
         let net = &net[..pick(&mut random, &[PLACES, PLACES, PLACES, 2196, 26])];
         let corrections = &corrections[..pick(&mut random, &[215, 216, 216, 216, 216, 64])];
         let uncertainties = &uncertainties[..];
@@ -108,8 +120,10 @@ fn lent_nets_of_any_numbers_agree() {
             for _ in 0..20 {
                 disturb(&mut net, degree, &mut random);
                 let divisor = pick(&mut random, &[1, largest - 1, largest]);
-                let coordinates =
-                    [0; 3].map(|_| random.between(8 * divisor as usize, SIZE * divisor as usize - 1) as u32);
+                let coordinates = [0; 3].map(|_| {
+                    let any = random.between(8 * divisor as usize, SIZE * divisor as usize - 1) as u32;
+                    or_far(any, SIZE as u32, divisor, &mut random)
+                });
                 let call = Call {
                     unit,
                     net: &net,

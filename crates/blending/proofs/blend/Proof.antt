@@ -49,7 +49,7 @@ place-is c = c .place .ensures
 
 point-placed : (c : tie.After-known-told2) → (let a = start (c .before .before .before .before) .args in
     (pointChecks (a .unit) (a .x) (a .y) (a .z) (a .divisor) ≡ Passed)
-    × (c .before .placed .given .0 .0 ≡ placing (a .x) (a .y) (a .z) (a .divisor)))
+    × (c .before .placed .given .0 .0 ≡ placing (a .unit) (a .x) (a .y) (a .z) (a .divisor)))
 point-placed c =
     let t = c .before .before .before .before in
     let a = start t .args in

@@ -5,7 +5,7 @@ use lib.Dec.{leb}
 use Rattle.spline.specs.Place.{Axis}
 use Rattle.placing.specs.Placing.{AxisRanks, axisNumber, onAxes, rankAxes}
 use Rattle.placing.specs.declared.Placing.{Placing}
-use Rattle.placing.specs.declared.Ranking.{Ranking}
+use Rattle.placing.specs.declared.ranking.Ranking.{Ranking}
 
 -- three axes in order, by their numbers, with their remainders
 abbrev pub inOrder : ℕ → ℕ → ℕ → ℕ → ℕ → ℕ → Ranking

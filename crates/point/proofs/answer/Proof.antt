@@ -56,7 +56,7 @@ module _ (c : tie.After-degree-of) where
   placed : (let a = start .args in
       (blendChecks (a .unit) (now (a .net)) (now (a .corrections)) (now (a .uncertainties)) (a .x) (a .y)
       (a .z) (a .divisor) ≡ Passed)
-      × (q ≡ placing (a .x) (a .y) (a .z) (a .divisor)))
+      × (q ≡ placing (a .unit) (a .x) (a .y) (a .z) (a .divisor)))
   placed =
       blend-placed _ _ _ _ _ _ _ _
       (sym (made .blend .ensures .0) ∙ c .before .before .before .blended .given .1)
@@ -99,11 +99,12 @@ module _ (c : tie.After-degree-of) where
 -- the sums are N and U
 sums-are : (c : tie.After-bernstein-sums) → (let d = c .before .before .before in
     let a = start d .args in
+    let q = placing (a .unit) (a .x) (a .y) (a .z) (a .divisor) in
     c .bernstein-sums .result
     ≡ part (shiftNumerator (netOf (a .unit)) (numberAt (now (a .net)))
-    (correctionAt (sizes (a .unit)) (now (a .corrections))) (placing (a .x) (a .y) (a .z) (a .divisor)))
+    (correctionAt (sizes (a .unit)) (now (a .corrections))) q)
     (uncertaintyNumerator (netOf (a .unit)) (numberAt (now (a .net)))
-    (uncertaintyAt (sizes (a .unit)) (now (a .uncertainties))) (placing (a .x) (a .y) (a .z) (a .divisor))))
+    (uncertaintyAt (sizes (a .unit)) (now (a .uncertainties))) q))
 sums-are c =
     let d = c .before .before .before in
     let a = start d .args in
@@ -129,7 +130,7 @@ denominator-is c =
     c .denominator .ensures
     ∙ ap₂ (λ (k : ℕ) (p : Placing). scale k (weightSum p)) (degree-is d) (placed d .1)
     ∙ ap (scale (m d))
-    (weights-add-up (a .x) (a .y) (a .z) (a .divisor) (divisor-some _ _ _ _ _ _ _ _ (placed d .0)))
+    (weights-add-up (a .unit) (a .x) (a .y) (a .z) (a .divisor) (divisor-some _ _ _ _ _ _ _ _ (placed d .0)))
 
 blend-requires : tie.Need-blend-requires
 blend-requires c κs = search needs

@@ -19,9 +19,9 @@ pub struct Case {
     pub net_length: usize,
     pub corrections: Vec<i16>,
     pub uncertainties: Vec<u16>,
-    /// k on each axis.
+    /// k on each axis: on a far face the last one.
     pub cube: [usize; 3],
-    /// u on each axis.
+    /// u on each axis: on a far face the divisor.
     pub remainder: [u32; 3],
     pub coordinates: [u32; 3],
     pub divisor: u32,
@@ -63,8 +63,11 @@ impl Case {
     pub fn over(divisor: u32, v: Multiplicities, random: &mut Random) -> Case {
         let sizes = sizes(v.extents(), random);
         let (extents, axes) = (v.extents(), sizes.axes());
-        let cube = [0, 1, 2].map(|b| random.between(extents[b] - 1, axes[b] - 1));
-        let remainder = remainder(divisor, random);
+        let mut cube = [0, 1, 2].map(|b| random.between(extents[b] - 1, axes[b] - 1));
+        let mut remainder = remainder(divisor, random);
+        for b in far_axes(random) {
+            (cube[b], remainder[b]) = (axes[b] - 1, divisor);
+        }
         let Block { mut corrections, mut uncertainties, .. } = block(sizes, random);
         if random.below(3) == 0 {
             gaps_around(cube, extents, sizes, &mut corrections);
@@ -87,6 +90,12 @@ fn remainder(divisor: u32, random: &mut Random) -> [u32; 3] {
     let [a, b, c] = [0; 3].map(|_: u32| random.below(divisor.into()) as u32);
     let special = [[0; 3], [a; 3], [a, a, b], [a, b, a], [b, a, a], [0, a, b], [a, 0, b], [a, b, 0]];
     if random.below(3) == 0 { pick(random, &special) } else { [a, b, c] }
+}
+
+/// Mostly none, else those of a far face, of an edge of two, or of the far corner.
+fn far_axes(random: &mut Random) -> impl Iterator<Item = usize> {
+    let faces = if random.below(4) == 0 { random.between(1, 7) } else { 0 };
+    (0..3).filter(move |b| faces >> b & 1 == 1)
 }
 
 /// Random entries, one correction throughout, or the largest numbers that the slices can hold.

@@ -72,13 +72,25 @@ fn needed_entry(case: &Case, random: &mut Random) -> usize {
     j[0] + n1 * (j[1] + n2 * j[2])
 }
 
-/// On one axis just below the window's room, just above the block, or far away.
+/// The coordinate of the far face of an axis.
+fn far(case: &Case, axis: usize) -> u64 {
+    u64::from(case.handed.unit.n[axis]) * u64::from(case.divisor)
+}
+
+/// On one axis just below the window's room, just past the far face, or far away; or near the far face of a block that
+/// has no room for the window.
 fn outside(case: &mut Case, random: &mut Random) {
     let axis = random.between(0, 2);
+    let extent = case.net.of.extents()[axis];
     let divisor = u64::from(case.divisor.max(1));
-    let below = (case.net.of.extents()[axis] as u64 - 1) * divisor - 1;
-    let above = u64::from(case.handed.unit.n[axis]) * divisor;
-    let coordinate = pick(random, &[0, below, above, above + divisor - 1, u64::from(u32::MAX)]);
+    let below = (extent as u64 - 1) * divisor - 1;
+    let past = far(case, axis) + 1;
+    let mut coordinate = pick(random, &[0, below, past, past, past + divisor - 1, u64::from(u32::MAX)]);
+    if random.below(4) == 0 {
+        case.handed.unit.n[axis] = random.between(1, extent - 1) as u16;
+        let far = far(case, axis);
+        coordinate = pick(random, &[far, far, far.saturating_sub(1), far + 1, case.coordinates[axis].into()]);
+    }
     case.coordinates[axis] = coordinate.min(u32::MAX.into()) as u32;
 }
 
@@ -108,9 +120,10 @@ pub fn free(random: &mut Random) -> Case {
     if random.below(2) == 0 {
         case.handed = unit(random);
     }
-    for coordinate in &mut case.coordinates {
-        let any = random.below(1 << 32) as u32;
-        *coordinate = pick(random, &[*coordinate, *coordinate, *coordinate, 0, any, u32::MAX]);
+    for axis in 0..3 {
+        let (own, any) = (case.coordinates[axis], random.below(1 << 32) as u32);
+        let far = far(&case, axis).min(u32::MAX.into()) as u32;
+        case.coordinates[axis] = pick(random, &[own, own, own, far, far.saturating_add(1), 0, any, u32::MAX]);
     }
     case
 }

@@ -5,9 +5,9 @@ use borrow.Author.Needs.{needs}
 use borrow.Author.Tests.{le-leb, lt-leb}
 use Rattle.spline.specs.Place.{a1, a2}
 use Rattle.placing.proofs.Ranks.{third-ranked}
-use Rattle.placing.proofs.rank.Statement.{statement}
+use Rattle.placing.proofs.ranking.rank.Statement.{statement}
 use Rattle.placing.specs.Placing.{onAxes, rankAxes}
-use Rattle.placing.proofs.rank.Tie as tie
+use Rattle.placing.proofs.ranking.rank.Tie as tie
 
 with-third-requires : tie.Need-with-third-requires
 with-third-requires c κs = search needs

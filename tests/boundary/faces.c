@@ -1,0 +1,141 @@
+/* Points on the far faces of a block, where a coordinate is nb * divisor: they are answered, a step further is refused.
+   What is expected was worked out by hand, or is the constant of a block. */
+#include "expect.h"
+#include "torskavel.h"
+
+#include <stdlib.h>
+
+#define OUTSIDE TORSKAVEL_REFUSED_OUTSIDE
+
+static uint32_t net[TORSKAVEL_MAX_PLACES];
+static int32_t work[TORSKAVEL_MAX_PLACES];
+static int16_t corrections[TORSKAVEL_MAX_ENTRIES];
+static uint16_t uncertainties[TORSKAVEL_MAX_ENTRIES];
+
+/* The unit with the net of v1 to v4, which is built, and a block of one correction and one uncertainty. */
+static struct torskavel_unit unit_of(const uint8_t v[4], const uint16_t n[3], int16_t correction, uint16_t uncertainty) {
+    uint8_t order[TORSKAVEL_MAX_ORDER];
+    size_t length = 0;
+    for (uint8_t d = 1; d <= 4; d++)
+        for (unsigned i = 1; i < v[d - 1]; i++) order[length++] = d;
+    const struct torskavel_unit_answer a = torskavel_build(
+        torskavel_empty_unit(), order, length, net, TORSKAVEL_MAX_PLACES, work, TORSKAVEL_MAX_PLACES);
+    EXPECT(a.number == 0);
+    struct torskavel_unit unit = a.unit;
+    unit.has_block = 1;
+    unit.n1 = n[0];
+    unit.n2 = n[1];
+    unit.n3 = n[2];
+    for (size_t i = 0; i < TORSKAVEL_MAX_ENTRIES; i++) {
+        corrections[i] = correction;
+        uncertainties[i] = uncertainty;
+    }
+    return unit;
+}
+
+static struct torskavel_point_answer answer(struct torskavel_unit unit, uint32_t x, uint32_t y, uint32_t z, uint32_t d) {
+    return torskavel_answer(unit, net, TORSKAVEL_MAX_PLACES, corrections, TORSKAVEL_MAX_ENTRIES, uncertainties,
+        TORSKAVEL_MAX_ENTRIES, x, y, z, d);
+}
+
+static int gives(struct torskavel_point_answer a, int64_t numerator, uint64_t uncertainty, uint64_t denominator) {
+    return a.number == 0 && a.place == 0 && a.numerator == numerator && a.uncertainty == uncertainty &&
+        a.denominator == denominator;
+}
+
+static int refuses(struct torskavel_point_answer a, uint32_t number, size_t place) {
+    return a.number == number && a.place == place && a.numerator == 0 && a.uncertainty == 0 && a.denominator == 0;
+}
+
+/* The simple net reads at a whole position the entry one before it on every axis, and along an axis straight between two
+   of them. The block has 100 at (0,0,0), -40 at (1,0,0), else 0. */
+static void by_hand(void) {
+    const uint8_t v[4] = {1, 1, 1, 1};
+    const uint16_t n[3] = {2, 2, 2};
+    const struct torskavel_unit unit = unit_of(v, n, 0, 5);
+    corrections[0] = 100;
+    corrections[1] = -40;
+    EXPECT(gives(answer(unit, 2, 1, 1, 1), -40, 5, 1));
+    EXPECT(gives(answer(unit, 1, 2, 1, 1), 0, 5, 1));
+    EXPECT(gives(answer(unit, 2, 2, 2, 1), 0, 5, 1));
+    EXPECT(gives(answer(unit, 3, 2, 2, 2), 60, 10, 2)); /* half way from 100 to -40 */
+    EXPECT(gives(answer(unit, 4, 2, 2, 2), -80, 10, 2));
+    EXPECT(gives(answer(unit, 8, 5, 4, 4), -120, 20, 4)); /* a quarter of the way from -40 to 0 */
+    EXPECT(refuses(answer(unit, 0, 1, 1, 1), OUTSIDE, 0));
+    EXPECT(refuses(answer(unit, 3, 1, 1, 1), OUTSIDE, 0));
+    EXPECT(refuses(answer(unit, 5, 2, 2, 2), OUTSIDE, 0));
+    EXPECT(refuses(answer(unit, 2, 3, 2, 1), OUTSIDE, 0));
+}
+
+/* On a face too every entry of the window is wanted and every share looked at, also where the weights make them count
+   nothing. */
+static void what_counts_nothing(void) {
+    const uint8_t v[4] = {1, 1, 1, 1};
+    const uint16_t n[3] = {3, 2, 2};
+    const struct torskavel_unit unit = unit_of(v, n, -7, 3);
+    corrections[0] = TORSKAVEL_NEVER_MEASURED; /* before the window, which is from (1,0,0) to (2,1,1) */
+    EXPECT(gives(answer(unit, 3, 1, 1, 1), -7, 3, 1));
+    corrections[1] = TORSKAVEL_NEVER_MEASURED; /* in the window; what counts is (2,0,0) alone */
+    EXPECT(refuses(answer(unit, 3, 1, 1, 1), TORSKAVEL_REFUSED_UNMEASURED, 1));
+    corrections[1] = -7;
+    net[0] = 1; /* a share of (2,1,1) at the cell's low corner, whose weight is 0 */
+    EXPECT(refuses(answer(unit, 3, 1, 1, 1), TORSKAVEL_REFUSED_SHARES, 0));
+}
+
+static uint64_t denominator(size_t degree, uint64_t divisor) {
+    uint64_t product = 1;
+    for (size_t i = 1; i <= degree; i++) product *= i * divisor;
+    return product;
+}
+
+static uint32_t largest_divisor(size_t degree) {
+    uint32_t most = 1; /* from below, so that no product is past 64 bits */
+    while (most < TORSKAVEL_MAX_DIVISOR && denominator(degree, most + 1) <= TORSKAVEL_MAX_DENOMINATOR) most++;
+    return most;
+}
+
+/* A constant block answers the constant on each face, edge and corner, and a step past any of these faces is refused. The
+   other coordinates are the lowest inside. */
+static void constant(const uint8_t v[4], const uint16_t n[3], uint32_t divisor) {
+    const struct torskavel_unit unit = unit_of(v, n, -7, 3);
+    const uint64_t over = denominator(TORSKAVEL_DEGREE(v[0], v[1], v[2], v[3]), divisor);
+    for (unsigned faces = 1; faces < 8; faces++) {
+        uint32_t at[3];
+        for (size_t b = 0; b < 3; b++) at[b] = divisor * (faces >> b & 1 ? n[b] : v[b] + v[3] - 1u);
+        EXPECT(gives(answer(unit, at[0], at[1], at[2], divisor), -7 * (int64_t)over, 3 * over, over));
+        for (size_t b = 0; b < 3; b++)
+            if (faces >> b & 1)
+                EXPECT(refuses(answer(unit, at[0] + (b == 0), at[1] + (b == 1), at[2] + (b == 2), divisor), OUTSIDE, 0));
+    }
+}
+
+/* A block with fewer entries than the extent on an axis has no point inside, its far faces neither. */
+static void too_small(const uint8_t v[4], uint32_t divisor) {
+    for (size_t b = 0; b < 3; b++) {
+        uint16_t n[3] = {(uint16_t)(v[0] + v[3]), (uint16_t)(v[1] + v[3]), (uint16_t)(v[2] + v[3])};
+        n[b]--;
+        const struct torskavel_unit unit = unit_of(v, n, -7, 3);
+        EXPECT(refuses(answer(unit, n[0] * divisor, n[1] * divisor, n[2] * divisor, divisor), OUTSIDE, 0));
+    }
+}
+
+/* Nets of every degree, each direction repeated; blocks of just the extents and of more. */
+static void constants(void) {
+    for (uint8_t more = 0; more <= TORSKAVEL_MAX_ORDER; more++)
+        for (uint8_t d = 0; d < 4; d++) {
+            uint8_t v[4] = {1, 1, 1, 1};
+            v[d] = (uint8_t)(v[d] + more - more / 2);
+            v[(d + 1) % 4] = (uint8_t)(v[(d + 1) % 4] + more / 2);
+            const uint16_t n[3] = {(uint16_t)(v[0] + v[3]), (uint16_t)(v[1] + v[3] + 1), (uint16_t)(v[2] + v[3] + 2)};
+            constant(v, n, 1);
+            constant(v, n, largest_divisor(TORSKAVEL_DEGREE(v[0], v[1], v[2], v[3])));
+            too_small(v, 2);
+        }
+}
+
+int main(void) {
+    by_hand();
+    what_counts_nothing();
+    constants();
+    return failures == 0 ? EXIT_SUCCESS : EXIT_FAILURE;
+}
