@@ -1,6 +1,6 @@
 /*
  * Torskavel for C99, C++11 and later: the calls of the archive that `rt staticlib c_api` writes,
- * target/staticlib/libc_api.a.
+ * target/staticlib/libc_api.a. torskavel_layout.h stands beside this file.
  *
  * A call answers or refuses by number, whatever numbers, bytes, counts and unit record it is handed; a refused call leaves
  * the record and every slice as they were, but for the two work slices of an inspection.
@@ -13,9 +13,9 @@
  *     runs on the same stack must leave them alone.
  *   - At most TORSKAVEL_MAX_CODE bytes of code and constants, no data that is written, no heap. Nothing is kept between
  *     calls.
- *   - It needs two functions from outside, memset and memcpy.
+ *   - It needs no functions from outside but memset and memcpy.
  *   - A call takes at most TORSKAVEL_MAX_STACK bytes of stack, its arguments and return address and the red zone
- *     included, what memset and memcpy take not included. Only a point takes as much, for its blended numbers;
+ *     included, what memset and memcpy take not included. Only the calls for a point take as much, for its blended numbers;
  *     torskavel_build and torskavel_inspect take at most TORSKAVEL_MAX_STACK_BUILD, torskavel_empty_unit and
  *     torskavel_load at most TORSKAVEL_MAX_STACK_LOAD.
  *
@@ -30,6 +30,8 @@
  *   - While a call runs nobody else writes to its slices, and nobody reads those that it writes: a build, an inspection
  *     or a load leaves them half-written until it returns. Calls that keep to this may run at the same time, as points
  *     over one net and one block that nobody writes.
+ *   - While torskavel_live_answer runs the processor rounds to nearest, as at a program's start: bits 13 and 14 of MXCSR
+ *     are 0. No step of it rounds, but the sign of a sum that is zero depends on them. No other call uses floats.
  *
  * The padding of an answer has no promised value: compare fields, not bytes. A unit has no padding.
  */
@@ -44,7 +46,7 @@ extern "C" {
 #endif
 
 #define TORSKAVEL_VERSION_MAJOR 0
-#define TORSKAVEL_VERSION_MINOR 2
+#define TORSKAVEL_VERSION_MINOR 3
 #define TORSKAVEL_VERSION_PATCH 0
 
 #define TORSKAVEL_MAX_CODE 16384
@@ -53,7 +55,8 @@ extern "C" {
 #define TORSKAVEL_MAX_STACK_LOAD 256
 
 /* The limits: an order's bytes; the sum of the four multiplicities, each at least 1; a net's degree and places; a block's
-   size on an axis and its entries; a file's bytes, and an uncertainty in it; a point's divisor, and its denominator. */
+   size on an axis and its entries; a file's bytes, and an uncertainty in it; a point's divisor, its denominator, and its
+   denominator in a live call. */
 #define TORSKAVEL_MAX_ORDER 8
 #define TORSKAVEL_MAX_MULTIPLICITY_SUM 12
 #define TORSKAVEL_MAX_DEGREE 9
@@ -64,6 +67,7 @@ extern "C" {
 #define TORSKAVEL_MAX_UNCERTAINTY 32767
 #define TORSKAVEL_MAX_DIVISOR 4096
 #define TORSKAVEL_MAX_DENOMINATOR UINT64_C(281474976710656)
+#define TORSKAVEL_MAX_LIVE_DENOMINATOR UINT64_C(137438953472)
 
 /* The correction of an entry that was never measured. */
 #define TORSKAVEL_NEVER_MEASURED (-32768)
@@ -116,6 +120,7 @@ enum torskavel_refused {
     TORSKAVEL_REFUSED_OUTSIDE = 12,        /* the point is not inside the block */
     TORSKAVEL_REFUSED_UNMEASURED = 13,     /* the point needs an entry that was never measured; place: the lowest such */
     TORSKAVEL_REFUSED_NET_DIFFERS = 14,    /* the net is not the defined one; place: the lowest index that differs */
+    TORSKAVEL_REFUSED_LIVE_DENOMINATOR = 15, /* in a live call alone: m! * divisor^m is above 2^37 */
     TORSKAVEL_REFUSED_NO_NET = 21,         /* the unit has no net */
     TORSKAVEL_REFUSED_NO_BLOCK = 22,       /* the unit has no block */
     TORSKAVEL_REFUSED_SHARES = 23          /* no net that answers this point was lent: its shares do not add up to m! */
@@ -136,6 +141,14 @@ struct torskavel_point_answer {
     int64_t numerator;
     uint64_t uncertainty;
     uint64_t denominator;
+};
+
+/* The answer of a live call: N and U as floats, not divided by the denominator. A refused call answers +0.0 for both. */
+struct torskavel_live_point_answer {
+    uint32_t number;
+    size_t place;
+    double numerator;
+    double uncertainty;
 };
 
 /* The unit that holds neither net nor block: all zeros. */
@@ -199,37 +212,31 @@ struct torskavel_point_answer torskavel_answer(
     const uint16_t *uncertainties, size_t uncertainties_length,
     uint32_t x, uint32_t y, uint32_t z, uint32_t divisor);
 
+/*
+ * The live call: answers a point with the numbers of the exact call, torskavel_answer, as floats. Refused by
+ * 21, 22, 4, 9, 10, 11, 15, 12, 13, 23, in this order. Writes to no slice.
+ *
+ * numerator is N and uncertainty is U, exactly; zero is +0.0, all 64 bits 0. They are numerators and not quotients: divide
+ * them by m! * divisor^m, which is the same for all points of one unit and divisor, for tenths of a micrometre.
+ *
+ * with_uncertainty of 0 switches the uncertainty off, which is then answered as +0.0; every other byte leaves it on. It
+ * changes neither N nor any check: the slice of uncertainties is wanted all the same.
+ *
+ * 15 is the only check that the exact call has not, so what is answered here is answered there, with the same numbers. By
+ * 10, 11 and 15 the largest divisor for the degrees 1 to 9 is 4096, 4096, 2840, 275, 64, 23, 11, 6, 4.
+ */
+struct torskavel_live_point_answer torskavel_live_answer(
+    struct torskavel_unit unit,
+    const uint32_t *net, size_t net_length,
+    const int16_t *corrections, size_t corrections_length,
+    const uint16_t *uncertainties, size_t uncertainties_length,
+    uint32_t x, uint32_t y, uint32_t z, uint32_t divisor,
+    uint8_t with_uncertainty);
+
 #ifdef __cplusplus
 }
 #endif
 
-/* The layouts that the archive has. */
-#if defined(__cplusplus) && __cplusplus >= 201103L
-#define TORSKAVEL_ASSERT(fact) static_assert(fact, #fact)
-#define TORSKAVEL_ALIGN(type) alignof(type)
-#elif defined(__STDC_VERSION__) && __STDC_VERSION__ >= 201112L
-#define TORSKAVEL_ASSERT(fact) _Static_assert(fact, #fact)
-#define TORSKAVEL_ALIGN(type) _Alignof(type)
-#endif
-#ifdef TORSKAVEL_ASSERT
-TORSKAVEL_ASSERT(sizeof(struct torskavel_unit) == 12 && TORSKAVEL_ALIGN(struct torskavel_unit) == 2);
-TORSKAVEL_ASSERT(offsetof(struct torskavel_unit, has_net) == 0);
-TORSKAVEL_ASSERT(offsetof(struct torskavel_unit, v1) == 1 && offsetof(struct torskavel_unit, v2) == 2);
-TORSKAVEL_ASSERT(offsetof(struct torskavel_unit, v3) == 3 && offsetof(struct torskavel_unit, v4) == 4);
-TORSKAVEL_ASSERT(offsetof(struct torskavel_unit, has_block) == 5 && offsetof(struct torskavel_unit, n1) == 6);
-TORSKAVEL_ASSERT(offsetof(struct torskavel_unit, n2) == 8 && offsetof(struct torskavel_unit, n3) == 10);
-TORSKAVEL_ASSERT(sizeof(struct torskavel_unit_answer) == 32 && TORSKAVEL_ALIGN(struct torskavel_unit_answer) == 8);
-TORSKAVEL_ASSERT(offsetof(struct torskavel_unit_answer, number) == 0);
-TORSKAVEL_ASSERT(offsetof(struct torskavel_unit_answer, place) == 8);
-TORSKAVEL_ASSERT(offsetof(struct torskavel_unit_answer, unit) == 16);
-TORSKAVEL_ASSERT(sizeof(struct torskavel_point_answer) == 40 && TORSKAVEL_ALIGN(struct torskavel_point_answer) == 8);
-TORSKAVEL_ASSERT(offsetof(struct torskavel_point_answer, number) == 0);
-TORSKAVEL_ASSERT(offsetof(struct torskavel_point_answer, place) == 8);
-TORSKAVEL_ASSERT(offsetof(struct torskavel_point_answer, numerator) == 16);
-TORSKAVEL_ASSERT(offsetof(struct torskavel_point_answer, uncertainty) == 24);
-TORSKAVEL_ASSERT(offsetof(struct torskavel_point_answer, denominator) == 32);
-#undef TORSKAVEL_ASSERT
-#undef TORSKAVEL_ALIGN
-#endif
+#include "torskavel_layout.h"
 
 #endif

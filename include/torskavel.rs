@@ -1,14 +1,19 @@
 //! Torskavel for Rust: the calls of the archive that `rt staticlib c_api` writes, target/staticlib/libc_api.a. What each
 //! does, and what the archive needs, stands in torskavel.h. The functions are safe: every Rust slice keeps what a C caller
-//! owes.
+//! owes, and Rust rounds to nearest. torskavel_calls.rs stands beside this file.
 
 // A program may use any part of this file.
 #![allow(dead_code)]
 
+/// The calls as C has them.
+#[path = "torskavel_calls.rs"]
+pub mod calls;
+
+use calls::*;
 use core::mem::{align_of, offset_of, size_of};
 
 pub const VERSION_MAJOR: u32 = 0;
-pub const VERSION_MINOR: u32 = 2;
+pub const VERSION_MINOR: u32 = 3;
 pub const VERSION_PATCH: u32 = 0;
 
 /// The most bytes of code and constants of the archive.
@@ -40,6 +45,8 @@ pub const MAX_UNCERTAINTY: u16 = 32767;
 pub const MAX_DIVISOR: u32 = 4096;
 /// The largest denominator of an answer.
 pub const MAX_DENOMINATOR: u64 = 281474976710656;
+/// The largest denominator with which a live call answers.
+pub const MAX_LIVE_DENOMINATOR: u64 = 137438953472;
 /// The correction of an entry that was never measured.
 pub const NEVER_MEASURED: i16 = -32768;
 
@@ -60,6 +67,7 @@ pub mod refused {
     pub const OUTSIDE: u32 = 12;
     pub const UNMEASURED: u32 = 13;
     pub const NET_DIFFERS: u32 = 14;
+    pub const LIVE_DENOMINATOR: u32 = 15;
     pub const NO_NET: u32 = 21;
     pub const NO_BLOCK: u32 = 22;
     pub const SHARES: u32 = 23;
@@ -117,6 +125,17 @@ pub struct PointAnswer {
     pub denominator: u64,
 }
 
+/// N and U as floats, not divided. The number is 0 where the call was not refused; a refused call answers +0.0
+/// for both.
+#[repr(C)]
+#[derive(Clone, Copy, PartialEq, Debug)]
+pub struct LivePointAnswer {
+    pub number: u32,
+    pub place: usize,
+    pub numerator: f64,
+    pub uncertainty: f64,
+}
+
 const _: () = {
     assert!(size_of::<Unit>() == 12 && align_of::<Unit>() == 2);
     assert!(offset_of!(Unit, has_net) == 0 && offset_of!(Unit, v1) == 1 && offset_of!(Unit, v2) == 2);
@@ -129,55 +148,10 @@ const _: () = {
     assert!(offset_of!(PointAnswer, number) == 0 && offset_of!(PointAnswer, place) == 8);
     assert!(offset_of!(PointAnswer, numerator) == 16 && offset_of!(PointAnswer, uncertainty) == 24);
     assert!(offset_of!(PointAnswer, denominator) == 32);
+    assert!(size_of::<LivePointAnswer>() == 32 && align_of::<LivePointAnswer>() == 8);
+    assert!(offset_of!(LivePointAnswer, number) == 0 && offset_of!(LivePointAnswer, place) == 8);
+    assert!(offset_of!(LivePointAnswer, numerator) == 16 && offset_of!(LivePointAnswer, uncertainty) == 24);
 };
-
-unsafe extern "C" {
-    safe fn torskavel_empty_unit() -> Unit;
-    fn torskavel_build(
-        unit: Unit,
-        order: *const u8,
-        order_length: usize,
-        net: *mut u32,
-        net_length: usize,
-        work: *mut i32,
-        work_length: usize,
-    ) -> UnitAnswer;
-    fn torskavel_inspect(
-        unit: Unit,
-        v1: u8,
-        v2: u8,
-        v3: u8,
-        v4: u8,
-        net: *const u32,
-        net_length: usize,
-        defined: *mut u32,
-        defined_length: usize,
-        work: *mut i32,
-        work_length: usize,
-    ) -> UnitAnswer;
-    fn torskavel_load(
-        unit: Unit,
-        file: *const u8,
-        file_length: usize,
-        corrections: *mut i16,
-        corrections_length: usize,
-        uncertainties: *mut u16,
-        uncertainties_length: usize,
-    ) -> UnitAnswer;
-    fn torskavel_answer(
-        unit: Unit,
-        net: *const u32,
-        net_length: usize,
-        corrections: *const i16,
-        corrections_length: usize,
-        uncertainties: *const u16,
-        uncertainties_length: usize,
-        x: u32,
-        y: u32,
-        z: u32,
-        divisor: u32,
-    ) -> PointAnswer;
-}
 
 pub fn empty_unit() -> Unit {
     torskavel_empty_unit()
@@ -218,4 +192,23 @@ pub fn answer(
     let (c, c_length) = (corrections.as_ptr(), corrections.len());
     let (u, u_length) = (uncertainties.as_ptr(), uncertainties.len());
     unsafe { torskavel_answer(unit, net, net_length, c, c_length, u, u_length, x, y, z, divisor) }
+}
+
+/// The live call: the numbers of `answer` as floats, to be divided by m! times divisor^m. Where that is above
+/// `MAX_LIVE_DENOMINATOR`, and no check before applies, it is refused by 15. An uncertainty that is switched off
+/// is +0.0.
+pub fn live_answer(
+    unit: Unit,
+    net: &[u32],
+    corrections: &[i16],
+    uncertainties: &[u16],
+    [x, y, z]: [u32; 3],
+    divisor: u32,
+    with_uncertainty: bool,
+) -> LivePointAnswer {
+    let (net, net_length) = (net.as_ptr(), net.len());
+    let (c, c_length) = (corrections.as_ptr(), corrections.len());
+    let (u, u_length) = (uncertainties.as_ptr(), uncertainties.len());
+    let flag = with_uncertainty.into();
+    unsafe { torskavel_live_answer(unit, net, net_length, c, c_length, u, u_length, x, y, z, divisor, flag) }
 }

@@ -1,5 +1,6 @@
 """What the evaluator answers. Build it first: `cargo build --release --offline` in evaluator/."""
 import functools
+import struct
 import subprocess
 from pathlib import Path
 
@@ -11,6 +12,15 @@ def ask(*words, text=""):
     """What a command prints that has this text as its standard input."""
     command = [str(COMMAND), *map(str, words)]
     return subprocess.run(command, input=text, stdout=subprocess.PIPE, text=True, check=True).stdout
+
+
+def live(command, flag, *call):
+    """The live answer by command `live` or `lent-live`, the call's words as `point` takes them: `both` with N and
+    U as floats, `shift` with N, or `refused` with number and place."""
+    kind, *words = ask(command, flag, *call).split()
+    if kind == "refused":
+        return [kind, *map(int, words)]
+    return [kind, *(struct.unpack(">d", bytes.fromhex(bits))[0] for bits in words)]
 
 
 def prints(inputs):

@@ -4,8 +4,10 @@
 mod builds;
 mod hand;
 mod inspections;
+mod live;
 mod loads;
 mod points;
+mod scene;
 mod table;
 mod timing;
 #[rustfmt::skip]
@@ -26,5 +28,14 @@ fn main() {
         row.print();
         row
     });
-    table::print_shapes(&hand::TUNED.map(|(shape, _)| shape), &points);
+    let (live, exact): (Vec<_>, Vec<_>) = live::CASES
+        .into_iter()
+        .map(|case| {
+            let (row, exact) = live::measure(case);
+            row.print();
+            (row, exact)
+        })
+        .unzip();
+    table::print_shapes(&hand::TUNED.map(|(shape, _)| shape), points.iter().chain(&live));
+    table::print_live(&live, &exact);
 }

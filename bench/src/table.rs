@@ -33,15 +33,19 @@ impl Row {
     pub fn print(&self) {
         let over = |time: Option<Duration>| time.map_or(String::new(), |time| ratio(time, self.library));
         println!(
-            "| {} | {:.2} | {} | {} | {} | {} |",
+            "| {} | {} | {} | {} | {} | {} |",
             self.call,
-            self.library.as_secs_f64() * 1e6,
+            micros(self.library),
             ratio(self.library, self.hand),
             ratio(self.library, self.tuned[self.fastest()]),
             over(self.recursion.as_ref().map(|recursion| recursion.alone)),
             over(self.recursion.as_ref().map(|recursion| recursion.with_tables))
         );
     }
+}
+
+fn micros(time: Duration) -> String {
+    format!("{:.2}", time.as_secs_f64() * 1e6)
 }
 
 fn ratio(a: Duration, b: Duration) -> String {
@@ -58,12 +62,21 @@ pub fn print_header() {
 }
 
 /// The library and the tuned shapes, each over the hand-written call.
-pub fn print_shapes(shapes: &[&str], rows: &[Row]) {
+pub fn print_shapes<'a>(shapes: &[&str], rows: impl Iterator<Item = &'a Row>) {
     println!("\n| over hand-written | library | {} | fastest |", shapes.join(" | "));
     println!("|---|---|{}---|", "---|".repeat(shapes.len()));
     for row in rows {
         let ratios: Vec<String> = row.tuned.iter().map(|&time| ratio(time, row.hand)).collect();
         let library = ratio(row.library, row.hand);
         println!("| {} | {library} | {} | {} |", row.call, ratios.join(" | "), shapes[row.fastest()]);
+    }
+}
+
+/// The library's live call, and its exact one at the same points.
+pub fn print_live(rows: &[Row], exact: &[Duration]) {
+    println!("\n| at the same points | live, µs | exact, µs | live / exact |");
+    println!("|---|---|---|---|");
+    for (Row { call, library, .. }, exact) in rows.iter().zip(exact) {
+        println!("| {call} | {} | {} | {} |", micros(*library), micros(*exact), ratio(*library, *exact));
     }
 }

@@ -2,9 +2,9 @@
 //! letter, with 23. On a defined net it must agree with module `point`.
 
 use crate::interpolation::{Quadruple, factorials, quadruples};
-use crate::point::{Call, Fraction, Placed, place};
+use crate::point::{Call, Exact, Fraction, Placed, place};
 use crate::ratio::factorial;
-use crate::unit::{Refusal, refuse_if};
+use crate::unit::refuse_if;
 
 /// u on each axis: on a far face the divisor.
 fn remainders(placed: &Placed) -> [u32; 3] {
@@ -54,7 +54,7 @@ fn blend(call: &Call, net: &[u32], placed: &Placed, window: &[(usize, [usize; 3]
 }
 
 /// The answer of a call to which these numbers are lent; `call.net_length` is their count.
-pub fn answer(call: &Call, net: &[u32]) -> Result<Fraction, Refusal> {
+pub fn answer(call: &Call, net: &[u32]) -> Exact {
     assert_eq!(call.net_length, net.len());
     let placed = place(call)?;
     let degree = placed.multiplicities.degree();
@@ -81,7 +81,7 @@ mod tests {
     use super::*;
     use crate::field::Block;
     use crate::net::{Multiplicities, Net};
-    use crate::unit::{Sizes, Unit};
+    use crate::unit::{Refusal, Sizes, Unit};
 
     /// The call over the net and the sizes of the example in docs/SPECIFICATION.md, 2.5 and 8.5, at divisor 4.
     fn call(block: &Block, coordinates: [u32; 3]) -> Call<'_> {

@@ -8,6 +8,7 @@ pub mod formats;
 pub mod interpolation;
 pub mod lent;
 pub mod literal;
+pub mod live;
 pub mod net;
 pub mod point;
 pub mod query;

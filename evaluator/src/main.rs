@@ -22,6 +22,9 @@ usage: evaluator COMMAND
                             a point's answer from the numbers of a lent net: the defined one, or the one in FILE (in the
                             form of command net), with these numbers changed
                             BLOCK is --file FILE (a field file with sizes N1 N2 N3) or --seed NUMBER
+  live FLAG ..              a point's live answer, the floats as their bits in hexadecimal; FLAG is 1, or 0 where
+                            the uncertainty is switched off, and after it stands what command point takes
+  lent-live FLAG ..         the same with what command lent-point takes
 
   vectors DIRECTORY         writes the stored vectors
   vectors --check DIRECTORY
@@ -76,6 +79,8 @@ fn run(arguments: &[String]) -> Outcome {
         ["shares-expected"] => shares_expected(),
         ["point", ..] => print(query::point(&arguments[1..])?.as_bytes()),
         ["lent-point", ..] => print(query::lent_point(&arguments[1..])?.as_bytes()),
+        ["live", ..] => print(query::live(&arguments[1..])?.as_bytes()),
+        ["lent-live", ..] => print(query::lent_live(&arguments[1..])?.as_bytes()),
         ["vectors", "--check", directory] => check_vectors(Path::new(directory)),
         ["vectors", directory] => vectors::write(Path::new(directory)),
         _ => Err(USAGE.to_string()),

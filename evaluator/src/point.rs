@@ -48,6 +48,9 @@ impl fmt::Display for Fraction {
     }
 }
 
+/// The answer of an exact call.
+pub type Exact = Result<Fraction, Refusal>;
+
 /// A point that the checks up to 13 let pass.
 pub struct Placed {
     pub multiplicities: Multiplicities,
@@ -83,8 +86,13 @@ fn denominator(degree: usize, divisor: u32) -> i128 {
 
 /// The greatest divisor that neither 10 nor 11 refuses.
 pub fn largest_divisor(degree: usize) -> u32 {
-    let passes = |&d: &u32| denominator(degree, d) <= LARGEST_DENOMINATOR;
-    (1..=LARGEST_DIVISOR).rev().find(passes).expect("9! is below 2^48")
+    largest_divisor_within(degree, LARGEST_DENOMINATOR)
+}
+
+/// The greatest divisor that 10 does not refuse and whose denominator is within a limit.
+pub fn largest_divisor_within(degree: usize, limit: i128) -> u32 {
+    let passes = |&d: &u32| denominator(degree, d) <= limit;
+    (1..=LARGEST_DIVISOR).rev().find(passes).expect("9! is within the limit")
 }
 
 /// Whether a coordinate is inside on an axis, the far face included.
@@ -93,16 +101,27 @@ fn inside(extent: usize, size: usize, coordinate: u32, divisor: u32) -> bool {
     extent <= size && (first..=last).contains(&coordinate)
 }
 
-/// Checks 21, 22, 4, 9, 10, 11, 12, 13, in this order.
-pub fn place(call: &Call) -> Result<Placed, Refusal> {
+/// m! D^m of a call that passes 21, 22, 4, 9, 10, 11, which are checked in this order.
+pub fn denominator_of(call: &Call) -> Result<i128, Refusal> {
+    held(call).map(|(.., denominator)| denominator)
+}
+
+/// Checks 21, 22, 4, 9, 10, 11, in this order: what the unit has, and m! D^m.
+fn held(call: &Call) -> Result<(Multiplicities, Sizes, i128), Refusal> {
     let multiplicities = call.unit.net().ok_or(Refusal::from(21))?;
     let sizes = call.unit.block().ok_or(Refusal::from(22))?;
     refuse_if(call.net_length < multiplicities.places(), 4)?;
     refuse_if(call.corrections.len().min(call.uncertainties.len()) < sizes.entries(), 9)?;
-    let divisor = call.divisor;
-    refuse_if(divisor == 0 || divisor > LARGEST_DIVISOR, 10)?;
-    let denominator = denominator(multiplicities.degree(), divisor);
+    refuse_if(call.divisor == 0 || call.divisor > LARGEST_DIVISOR, 10)?;
+    let denominator = denominator(multiplicities.degree(), call.divisor);
     refuse_if(denominator > LARGEST_DENOMINATOR, 11)?;
+    Ok((multiplicities, sizes, denominator))
+}
+
+/// Those and then 12, 13.
+pub fn place(call: &Call) -> Result<Placed, Refusal> {
+    let (multiplicities, sizes, denominator) = held(call)?;
+    let divisor = call.divisor;
     let (extents, axes) = (multiplicities.extents(), sizes.axes());
     let inside = (0..3).all(|b| inside(extents[b], axes[b], call.coordinates[b], divisor));
     refuse_if(!inside, 12)?;
@@ -136,7 +155,7 @@ fn sum_over_block(call: &Call, placed: &Placed, value: impl Fn([i64; 3]) -> i64)
     Fraction::new(numerator, uncertainty, placed.denominator)
 }
 
-pub fn answer(call: &Call) -> Result<Fraction, Refusal> {
+pub fn answer(call: &Call) -> Exact {
     let placed = place(call)?;
     let mut translates = translates(&placed);
     let table = translates.table(&placed.multiplicities.counts());
@@ -144,7 +163,7 @@ pub fn answer(call: &Call) -> Result<Fraction, Refusal> {
 }
 
 /// As `answer`, each M(x - j) by itself and without tables.
-pub fn answer_without_tables(call: &Call) -> Result<Fraction, Refusal> {
+pub fn answer_without_tables(call: &Call) -> Exact {
     let placed = place(call)?;
     let translates = translates(&placed);
     let counts = placed.multiplicities.counts();

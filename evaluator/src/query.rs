@@ -4,11 +4,13 @@ use crate::field::{self, Block};
 use crate::formats::listing;
 use crate::lent;
 use crate::literal;
+use crate::live;
 use crate::net::{Multiplicities, Net};
-use crate::point::{self, Call, Fraction};
+use crate::point::{self, Call, Exact};
 use crate::random::Random;
 use crate::ratio::Ratio;
-use crate::unit::{Refusal, Sizes, Unit};
+use crate::unit::{Refusal, Sizes, Unit, told};
+use std::fmt::Display;
 use std::fs;
 
 const NUMBERS: usize = 11;
@@ -62,7 +64,7 @@ fn query(arguments: &[String]) -> Result<Query<'_>, String> {
 }
 
 /// Runs the call with a net slice of the given length; a refused file is the answer itself.
-fn ask(query: &Query, length: usize, answer: impl Fn(&Call) -> Result<Fraction, Refusal>) -> String {
+fn ask<T: Display>(query: &Query, length: usize, answer: impl Fn(&Call) -> Result<T, Refusal>) -> String {
     let answered = query.block.as_ref().map_err(|refusal| *refusal).and_then(|block| {
         answer(&Call {
             unit: Unit::EMPTY.with_net(query.multiplicities).with_block(block.sizes),
@@ -73,9 +75,14 @@ fn ask(query: &Query, length: usize, answer: impl Fn(&Call) -> Result<Fraction, 
             divisor: query.divisor,
         })
     });
-    match answered {
-        Ok(fraction) => format!("{fraction}\n"),
-        Err(refusal) => format!("{refusal}\n"),
+    told(&answered) + "\n"
+}
+
+/// Whether a live call is asked for the uncertainty, and the arguments after the flag.
+fn flag(arguments: &[String]) -> Result<(bool, &[String]), String> {
+    match arguments {
+        [flag, rest @ ..] if flag == "0" || flag == "1" => Ok((flag == "1", rest)),
+        _ => Err("a flag, 0 or 1, is missing".to_string()),
     }
 }
 
@@ -100,14 +107,40 @@ pub fn net(arguments: &[String]) -> Result<String, String> {
 }
 
 pub fn point(arguments: &[String]) -> Result<String, String> {
+    by_recurrence(arguments, |_, exact| exact)
+}
+
+pub fn lent_point(arguments: &[String]) -> Result<String, String> {
+    by_net(arguments, |_, exact| exact)
+}
+
+pub fn live(arguments: &[String]) -> Result<String, String> {
+    let (on, rest) = flag(arguments)?;
+    by_recurrence(rest, |call, exact| live::answer(call, exact, on))
+}
+
+pub fn lent_live(arguments: &[String]) -> Result<String, String> {
+    let (on, rest) = flag(arguments)?;
+    by_net(rest, |call, exact| live::answer(call, exact, on))
+}
+
+/// What is made of the exact answer by the recurrence.
+fn by_recurrence<T: Display>(
+    arguments: &[String],
+    make: impl Fn(&Call, Exact) -> Result<T, Refusal>,
+) -> Result<String, String> {
     let query = query(arguments)?;
     if !query.rest.is_empty() {
         return Err(format!("{} is too much", query.rest[0]));
     }
-    Ok(ask(&query, query.multiplicities.places(), point::answer))
+    Ok(ask(&query, query.multiplicities.places(), |call| make(call, point::answer(call))))
 }
 
-pub fn lent_point(arguments: &[String]) -> Result<String, String> {
+/// What is made of the exact answer from a lent net.
+fn by_net<T: Display>(
+    arguments: &[String],
+    make: impl Fn(&Call, Exact) -> Result<T, Refusal>,
+) -> Result<String, String> {
     let query = query(arguments)?;
     let (mut numbers, changes) = match query.rest {
         [option, file, changes @ ..] if option == "--net" => {
@@ -119,7 +152,7 @@ pub fn lent_point(arguments: &[String]) -> Result<String, String> {
         let (index, number) = parse_change(change).ok_or_else(|| format!("{change} is not INDEX=NUMBER"))?;
         *numbers.get_mut(index).ok_or_else(|| format!("there is no index {index}"))? = number;
     }
-    Ok(ask(&query, numbers.len(), |call| lent::answer(call, &numbers)))
+    Ok(ask(&query, numbers.len(), |call| make(call, lent::answer(call, &numbers))))
 }
 
 fn parse_change(text: &str) -> Option<(usize, u32)> {
@@ -169,7 +202,19 @@ mod tests {
 
     #[test]
     fn a_changed_number_is_refused_by_23() {
-        assert_eq!(lent_point(&words("1 1 1 1 2 2 2 1 1 1 1 --seed 9 13=2")), Ok("refused 23 0\n".to_string()));
+        let refused = Ok("refused 23 0\n".to_string());
+        assert_eq!(lent_point(&words("1 1 1 1 2 2 2 1 1 1 1 --seed 9 13=2")), refused);
+        assert_eq!(lent_live(&words("0 1 1 1 1 2 2 2 1 1 1 1 --seed 9 13=2")), refused);
+    }
+
+    #[test]
+    fn a_live_answer_begins_by_its_kind() {
+        for (flag, kind) in [("1", "both "), ("0", "shift ")] {
+            let arguments = words(&format!("{flag} 2 1 1 2 5 4 3 30 22 17 7 --seed 9"));
+            assert!(live(&arguments).unwrap().starts_with(kind));
+            assert_eq!(live(&arguments), lent_live(&arguments));
+        }
+        assert!(live(&words("2 1 1 1 1 2 2 2 1 1 1 1 --seed 9")).is_err());
     }
 
     #[test]

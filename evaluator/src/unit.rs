@@ -95,6 +95,11 @@ impl fmt::Display for Refusal {
     }
 }
 
+/// The text of an answer or of its refusal.
+pub fn told(answer: &Result<impl fmt::Display, Refusal>) -> String {
+    answer.as_ref().map_or_else(Refusal::to_string, |answer| answer.to_string())
+}
+
 /// Refuses where a condition applies.
 pub fn refuse_if(condition: bool, refusal: impl Into<Refusal>) -> Result<(), Refusal> {
     if condition { Err(refusal.into()) } else { Ok(()) }

@@ -1,4 +1,5 @@
-/* A unit from C: a net is built and inspected, a field file loaded, points answered. Run with the path of a field file. */
+/* A unit from C: a net is built and inspected, a field file loaded, points answered, exactly and live. Run with
+   the path of a field file. */
 #include "torskavel.h"
 
 #include <inttypes.h>
@@ -55,13 +56,33 @@ static struct torskavel_unit load(struct torskavel_unit unit, const char *path) 
     return a.unit;
 }
 
+static void asked(const char *call, uint32_t x, uint32_t y, uint32_t z, uint32_t divisor) {
+    printf("%s (%" PRIu32 ", %" PRIu32 ", %" PRIu32 ")/%" PRIu32, call, x, y, z, divisor);
+}
+
 static void answer(struct torskavel_unit unit, uint32_t x, uint32_t y, uint32_t z, uint32_t divisor) {
-    printf("point (%" PRIu32 ", %" PRIu32 ", %" PRIu32 ")/%" PRIu32 ": ", x, y, z, divisor);
+    asked("point", x, y, z, divisor);
+    printf(": ");
     struct torskavel_point_answer a = torskavel_answer(
         unit, net, PLACES, corrections, TORSKAVEL_MAX_ENTRIES, uncertainties, TORSKAVEL_MAX_ENTRIES, x, y, z, divisor);
     if (refused(a.number, a.place)) return;
     printf("shift %" PRId64 "/%" PRIu64 ", ", a.numerator, a.denominator);
     printf("uncertainty %" PRIu64 "/%" PRIu64 "\n", a.uncertainty, a.denominator);
+}
+
+/* Prints N and U, and what they are once divided. */
+static void live(
+    struct torskavel_unit unit, uint32_t x, uint32_t y, uint32_t z, uint32_t divisor, bool with_uncertainty) {
+    asked("live", x, y, z, divisor);
+    printf(with_uncertainty ? ": " : ", uncertainty switched off: ");
+    struct torskavel_live_point_answer a = torskavel_live_answer(unit, net, PLACES, corrections,
+        TORSKAVEL_MAX_ENTRIES, uncertainties, TORSKAVEL_MAX_ENTRIES, x, y, z, divisor, with_uncertainty);
+    if (refused(a.number, a.place)) return;
+    /* m! * divisor^m, where m is 4: a unit that is asked point after point works it out once */
+    const double over = 24.0 * divisor * divisor * divisor * divisor;
+    printf("N %.1f, shift %.4f", a.numerator, a.numerator / over);
+    if (with_uncertainty) printf(", U %.1f, uncertainty %.4f", a.uncertainty, a.uncertainty / over);
+    printf("\n");
 }
 
 int main(int count, char **words) {
@@ -78,6 +99,10 @@ int main(int count, char **words) {
     answer(unit, 5, 6, 5, 2); /* on the far face of axis 2, which has 3 entries: 6 is 3 * 2 */
     answer(unit, 5, 7, 5, 2); /* past it */
     answer(unit, 7, 5, 5, 2);
+    live(unit, 5, 5, 5, 2, true);
+    live(unit, 5, 5, 5, 2, false);
+    answer(unit, 690, 690, 690, 276); /* the same point, over a divisor that is too large for a live call */
+    live(unit, 690, 690, 690, 276, true);
     unit = inspect(unit);
     net[0] = 1;
     unit = inspect(unit);

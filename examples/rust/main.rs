@@ -1,4 +1,5 @@
-//! A unit from Rust: a net is built and inspected, a field file loaded, points answered. Run with the path of a field file.
+//! A unit from Rust: a net is built and inspected, a field file loaded, points answered, exactly and live. Run
+//! with the path of a field file.
 
 #[path = "../../include/torskavel.rs"]
 mod torskavel;
@@ -71,6 +72,21 @@ fn answer(unit: Unit, [x, y, z]: [u32; 3], divisor: u32, slices: &Slices) {
     report(&call, a.number, a.place, format!("shift {n}/{over}, uncertainty {u}/{over}"));
 }
 
+/// Prints N and U, and what they are once divided.
+fn live(unit: Unit, [x, y, z]: [u32; 3], divisor: u32, with_uncertainty: bool, slices: &Slices) {
+    let Slices { net, corrections, uncertainties, .. } = slices;
+    let a = torskavel::live_answer(unit, net, corrections, uncertainties, [x, y, z], divisor, with_uncertainty);
+    let (n, u) = (a.numerator, a.uncertainty);
+    // m! times divisor^m, where m is 4: a unit that is asked point after point works it out once
+    let over = 24.0 * f64::from(divisor).powi(4);
+    let shift = format!("N {n:.1}, shift {:.4}", n / over);
+    let (how, given) = match with_uncertainty {
+        true => ("", format!("{shift}, U {u:.1}, uncertainty {:.4}", u / over)),
+        false => (", uncertainty switched off", shift),
+    };
+    report(&format!("live ({x}, {y}, {z})/{divisor}{how}"), a.number, a.place, given);
+}
+
 fn main() {
     let path = std::env::args().nth(1).expect("the path of a field file");
     let mut slices = Slices::new();
@@ -83,6 +99,11 @@ fn main() {
     for point in [[5, 5, 5], [5, 6, 5], [5, 7, 5], [7, 5, 5]] {
         answer(unit, point, 2, &slices);
     }
+    live(unit, [5, 5, 5], 2, true, &slices);
+    live(unit, [5, 5, 5], 2, false, &slices);
+    // the same point, over a divisor that is too large for a live call
+    answer(unit, [690, 690, 690], 276, &slices);
+    live(unit, [690, 690, 690], 276, true, &slices);
     unit = inspect(unit, &mut slices);
     slices.net[0] = 1;
     unit = inspect(unit, &mut slices);

@@ -26,6 +26,7 @@ static void show_constants(void) {
     SHOW(MAX_UNCERTAINTY);
     SHOW(MAX_DIVISOR);
     SHOW(MAX_DENOMINATOR);
+    SHOW(MAX_LIVE_DENOMINATOR);
     SHOW(NEVER_MEASURED);
 }
 
@@ -45,6 +46,7 @@ static void show_refusals(void) {
     SHOW(REFUSED_OUTSIDE);
     SHOW(REFUSED_UNMEASURED);
     SHOW(REFUSED_NET_DIFFERS);
+    SHOW(REFUSED_LIVE_DENOMINATOR);
     SHOW(REFUSED_NO_NET);
     SHOW(REFUSED_NO_BLOCK);
     SHOW(REFUSED_SHARES);
@@ -71,6 +73,11 @@ static void show_layouts(void) {
     SHOW_FIELD(point_answer, numerator);
     SHOW_FIELD(point_answer, uncertainty);
     SHOW_FIELD(point_answer, denominator);
+    SHOW_SIZE(live_point_answer);
+    SHOW_FIELD(live_point_answer, number);
+    SHOW_FIELD(live_point_answer, place);
+    SHOW_FIELD(live_point_answer, numerator);
+    SHOW_FIELD(live_point_answer, uncertainty);
 }
 
 /* The places of all nets, and the entries and file bytes of some blocks. */

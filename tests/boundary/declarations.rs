@@ -4,7 +4,7 @@
 mod torskavel;
 
 use std::mem::{offset_of, size_of};
-use torskavel::{PointAnswer, Unit, UnitAnswer};
+use torskavel::{LivePointAnswer, PointAnswer, Unit, UnitAnswer};
 
 macro_rules! show {
     ($module:path, $prefix:literal: $($name:ident)*) => {{
@@ -21,17 +21,19 @@ macro_rules! show_fields {
 }
 
 fn show_constants() {
-    show!(torskavel, "": VERSION_MAJOR VERSION_MINOR VERSION_PATCH MAX_CODE MAX_STACK MAX_STACK_BUILD MAX_STACK_LOAD MAX_ORDER
-        MAX_MULTIPLICITY_SUM MAX_DEGREE MAX_PLACES MAX_SIZE MAX_ENTRIES MAX_FILE MAX_UNCERTAINTY MAX_DIVISOR
-        MAX_DENOMINATOR NEVER_MEASURED);
+    show!(torskavel, "": VERSION_MAJOR VERSION_MINOR VERSION_PATCH MAX_CODE MAX_STACK MAX_STACK_BUILD
+        MAX_STACK_LOAD MAX_ORDER MAX_MULTIPLICITY_SUM MAX_DEGREE MAX_PLACES MAX_SIZE MAX_ENTRIES MAX_FILE
+        MAX_UNCERTAINTY MAX_DIVISOR MAX_DENOMINATOR MAX_LIVE_DENOMINATOR NEVER_MEASURED);
     show!(torskavel::refused, "REFUSED_": NOT ORDER_LENGTH ORDER_BYTE MULTIPLICITIES NET_LENGTH FILE_HEADER SIZES
-        FILE_LENGTH UNCERTAINTY BLOCK_LENGTH DIVISOR DENOMINATOR OUTSIDE UNMEASURED NET_DIFFERS NO_NET NO_BLOCK SHARES);
+        FILE_LENGTH UNCERTAINTY BLOCK_LENGTH DIVISOR DENOMINATOR OUTSIDE UNMEASURED NET_DIFFERS LIVE_DENOMINATOR NO_NET
+        NO_BLOCK SHARES);
 }
 
 fn show_layouts() {
     show_fields!("unit", Unit: has_net v1 v2 v3 v4 has_block n1 n2 n3);
     show_fields!("unit_answer", UnitAnswer: number place unit);
     show_fields!("point_answer", PointAnswer: number place numerator uncertainty denominator);
+    show_fields!("live_point_answer", LivePointAnswer: number place numerator uncertainty);
 }
 
 fn show_functions() {

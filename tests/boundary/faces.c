@@ -1,6 +1,7 @@
-/* Points on the far faces of a block, where a coordinate is nb * divisor: they are answered, a step further is refused.
-   What is expected was worked out by hand, or is the constant of a block. */
+/* Points on the far faces of a block, where a coordinate is nb * divisor: they are answered, a step further is refused, by
+   the exact call and by the live call. What is expected was worked out by hand, or is the constant of a block. */
 #include "expect.h"
+#include "live.h"
 #include "torskavel.h"
 
 #include <stdlib.h>
@@ -33,18 +34,45 @@ static struct torskavel_unit unit_of(const uint8_t v[4], const uint16_t n[3], in
     return unit;
 }
 
-static struct torskavel_point_answer answer(struct torskavel_unit unit, uint32_t x, uint32_t y, uint32_t z, uint32_t d) {
-    return torskavel_answer(unit, net, TORSKAVEL_MAX_PLACES, corrections, TORSKAVEL_MAX_ENTRIES, uncertainties,
-        TORSKAVEL_MAX_ENTRIES, x, y, z, d);
+static uint64_t denominator(size_t degree, uint64_t divisor) {
+    uint64_t product = 1;
+    for (size_t i = 1; i <= degree; i++) product *= i * divisor;
+    return product;
 }
 
-static int gives(struct torskavel_point_answer a, int64_t numerator, uint64_t uncertainty, uint64_t denominator) {
-    return a.number == 0 && a.place == 0 && a.numerator == numerator && a.uncertainty == uncertainty &&
-        a.denominator == denominator;
+/* What both calls answer, and whether the live call meets 15 before it looks at the point. */
+struct both {
+    struct torskavel_point_answer exact;
+    struct torskavel_live_point_answer live;
+    int meets_15;
+};
+
+static struct both answer(struct torskavel_unit unit, uint32_t x, uint32_t y, uint32_t z, uint32_t d) {
+    const uint64_t over = denominator(TORSKAVEL_DEGREE(unit.v1, unit.v2, unit.v3, unit.v4), d);
+    const struct both a = {
+        torskavel_answer(unit, net, TORSKAVEL_MAX_PLACES, corrections, TORSKAVEL_MAX_ENTRIES, uncertainties,
+            TORSKAVEL_MAX_ENTRIES, x, y, z, d),
+        torskavel_live_answer(unit, net, TORSKAVEL_MAX_PLACES, corrections, TORSKAVEL_MAX_ENTRIES, uncertainties,
+            TORSKAVEL_MAX_ENTRIES, x, y, z, d, 1),
+        over > TORSKAVEL_MAX_LIVE_DENOMINATOR,
+    };
+    return a;
 }
 
-static int refuses(struct torskavel_point_answer a, uint32_t number, size_t place) {
-    return a.number == number && a.place == place && a.numerator == 0 && a.uncertainty == 0 && a.denominator == 0;
+static int live_is(struct both a, uint32_t number, size_t place, double n, double u) {
+    if (a.meets_15) return live_gives(a.live, TORSKAVEL_REFUSED_LIVE_DENOMINATOR, 0, 0.0, 0.0);
+    return live_gives(a.live, number, place, n, u);
+}
+
+static int gives(struct both a, int64_t numerator, uint64_t uncertainty, uint64_t over) {
+    return a.exact.number == 0 && a.exact.place == 0 && a.exact.numerator == numerator &&
+        a.exact.uncertainty == uncertainty && a.exact.denominator == over &&
+        live_is(a, 0, 0, (double)numerator, (double)uncertainty);
+}
+
+static int refuses(struct both a, uint32_t number, size_t place) {
+    return a.exact.number == number && a.exact.place == place && a.exact.numerator == 0 && a.exact.uncertainty == 0 &&
+        a.exact.denominator == 0 && live_is(a, number, place, 0.0, 0.0);
 }
 
 /* The simple net reads at a whole position the entry one before it on every axis, and along an axis straight between two
@@ -82,15 +110,9 @@ static void what_counts_nothing(void) {
     EXPECT(refuses(answer(unit, 3, 1, 1, 1), TORSKAVEL_REFUSED_SHARES, 0));
 }
 
-static uint64_t denominator(size_t degree, uint64_t divisor) {
-    uint64_t product = 1;
-    for (size_t i = 1; i <= degree; i++) product *= i * divisor;
-    return product;
-}
-
-static uint32_t largest_divisor(size_t degree) {
+static uint32_t largest_divisor(size_t degree, uint64_t largest) {
     uint32_t most = 1; /* from below, so that no product is past 64 bits */
-    while (most < TORSKAVEL_MAX_DIVISOR && denominator(degree, most + 1) <= TORSKAVEL_MAX_DENOMINATOR) most++;
+    while (most < TORSKAVEL_MAX_DIVISOR && denominator(degree, most + 1) <= largest) most++;
     return most;
 }
 
@@ -127,8 +149,10 @@ static void constants(void) {
             v[d] = (uint8_t)(v[d] + more - more / 2);
             v[(d + 1) % 4] = (uint8_t)(v[(d + 1) % 4] + more / 2);
             const uint16_t n[3] = {(uint16_t)(v[0] + v[3]), (uint16_t)(v[1] + v[3] + 1), (uint16_t)(v[2] + v[3] + 2)};
+            const size_t degree = TORSKAVEL_DEGREE(v[0], v[1], v[2], v[3]);
             constant(v, n, 1);
-            constant(v, n, largest_divisor(TORSKAVEL_DEGREE(v[0], v[1], v[2], v[3])));
+            constant(v, n, largest_divisor(degree, TORSKAVEL_MAX_DENOMINATOR));
+            constant(v, n, largest_divisor(degree, TORSKAVEL_MAX_LIVE_DENOMINATOR));
             too_small(v, 2);
         }
 }

@@ -27,8 +27,17 @@ static struct torskavel_unit_answer load(struct torskavel_unit unit, size_t entr
     return torskavel_load(unit, file, sizeof file, corrections, entries, uncertainties, ENTRIES);
 }
 
-static uint32_t number_at_1(struct torskavel_unit unit) {
-    return torskavel_answer(unit, net, PLACES, corrections, ENTRIES, uncertainties, ENTRIES, 1, 1, 1, 1).number;
+/* The number of both calls for a point, the second also with the uncertainty switched off. */
+static uint32_t number_at_1(struct torskavel_unit unit, const uint32_t *lent, const int16_t *c, const uint16_t *u) {
+    const size_t places = lent ? PLACES : 0, first = c ? ENTRIES : 0, second = u ? ENTRIES : 0;
+    const uint32_t number = torskavel_answer(unit, lent, places, c, first, u, second, 1, 1, 1, 1).number;
+    EXPECT(torskavel_live_answer(unit, lent, places, c, first, u, second, 1, 1, 1, 1, 1).number == number);
+    EXPECT(torskavel_live_answer(unit, lent, places, c, first, u, second, 1, 1, 1, 1, 0).number == number);
+    return number;
+}
+
+static uint32_t number_of(struct torskavel_unit unit) {
+    return number_at_1(unit, net, corrections, uncertainties);
 }
 
 static int gives(struct torskavel_unit_answer answer, uint32_t number, struct torskavel_unit unit) {
@@ -47,8 +56,8 @@ static void flags(void) {
         EXPECT(gives(load(no_block, ENTRIES), 0, held));
         EXPECT(gives(load(no_block, ENTRIES - 1), SHORT_BLOCK, no_block));
         EXPECT(gives(load(no_net, ENTRIES), 0, no_net));
-        EXPECT(number_at_1(no_net) == (byte == 1 ? 0 : NO_NET));
-        EXPECT(number_at_1(no_block) == (byte == 1 ? 0 : NO_BLOCK));
+        EXPECT(number_of(no_net) == (byte == 1 ? 0 : NO_NET));
+        EXPECT(number_of(no_block) == (byte == 1 ? 0 : NO_BLOCK));
     }
 }
 
@@ -64,7 +73,7 @@ static void worn_records(void) {
         EXPECT(gives(build(unit, PLACES), 0, built) && gives(build(unit, 0), SHORT_NET, unit));
         EXPECT(gives(load(unit, ENTRIES), 0, loaded) && gives(load(unit, 0), SHORT_BLOCK, unit));
         EXPECT(gives(torskavel_inspect(unit, 1, 1, 1, 1, net, PLACES, defined, PLACES, work, PLACES), 0, built));
-        EXPECT(number_at_1(unit) == (byte == 1 ? NO_BLOCK : NO_NET));
+        EXPECT(number_of(unit) == (byte == 1 ? NO_BLOCK : NO_NET));
     }
 }
 
@@ -74,15 +83,9 @@ static uint32_t inspect(const uint32_t *lent, uint32_t *first, int32_t *second) 
         empty, 1, 1, 1, 1, lent, lent ? PLACES : 0, first, first ? PLACES : 0, second, second ? PLACES : 0).number;
 }
 
-static uint32_t answer(const uint32_t *lent, const int16_t *first, const uint16_t *second) {
-    const struct torskavel_unit held = {1, 1, 1, 1, 1, 1, 2, 2, 2};
-    return torskavel_answer(
-        held, lent, lent ? PLACES : 0, first, first ? ENTRIES : 0, second, second ? ENTRIES : 0, 1, 1, 1, 1).number;
-}
-
 /* NULL with the count 0, for every slice of every call. */
 static void empty_slices(void) {
-    const struct torskavel_unit empty = torskavel_empty_unit();
+    const struct torskavel_unit empty = torskavel_empty_unit(), held = {1, 1, 1, 1, 1, 1, 2, 2, 2};
     EXPECT(torskavel_build(empty, NULL, 0, net, PLACES, work, PLACES).number == 0);
     EXPECT(torskavel_build(empty, NULL, 0, NULL, 0, work, PLACES).number == SHORT_NET);
     EXPECT(torskavel_build(empty, NULL, 0, net, PLACES, NULL, 0).number == SHORT_NET);
@@ -91,9 +94,11 @@ static void empty_slices(void) {
     EXPECT(torskavel_load(empty, NULL, 0, NULL, 0, NULL, 0).number == TORSKAVEL_REFUSED_FILE_HEADER);
     EXPECT(torskavel_load(empty, file, sizeof file, NULL, 0, uncertainties, ENTRIES).number == SHORT_BLOCK);
     EXPECT(torskavel_load(empty, file, sizeof file, corrections, ENTRIES, NULL, 0).number == SHORT_BLOCK);
-    EXPECT(answer(net, corrections, uncertainties) == 0 && answer(NULL, corrections, uncertainties) == SHORT_NET);
-    EXPECT(answer(net, NULL, uncertainties) == SHORT_BLOCK && answer(net, corrections, NULL) == SHORT_BLOCK);
-    EXPECT(torskavel_answer(empty, NULL, 0, NULL, 0, NULL, 0, 1, 1, 1, 1).number == NO_NET);
+    EXPECT(number_at_1(held, net, corrections, uncertainties) == 0);
+    EXPECT(number_at_1(held, NULL, corrections, uncertainties) == SHORT_NET);
+    EXPECT(number_at_1(held, net, NULL, uncertainties) == SHORT_BLOCK);
+    EXPECT(number_at_1(held, net, corrections, NULL) == SHORT_BLOCK);
+    EXPECT(number_at_1(empty, NULL, NULL, NULL) == NO_NET);
 }
 
 int main(void) {

@@ -18,6 +18,7 @@ static unsigned char stack[STACK] __attribute__((aligned(4096)));
 static struct torskavel_unit unit;
 static struct torskavel_unit_answer changed;
 static struct torskavel_point_answer answered;
+static struct torskavel_live_point_answer live;
 
 /* In the place of the C library's, so that their stack is not counted. */
 void *memset(void *to, int byte, size_t count) {
@@ -54,6 +55,17 @@ static void answer(void) {
     answered = torskavel_answer(unit, net, PLACES, corrections, ENTRIES, uncertainties, ENTRIES, 50, 51, 52, 9);
 }
 
+static void live_answer(void) {
+    live =
+        torskavel_live_answer(unit, net, PLACES, corrections, ENTRIES, uncertainties, ENTRIES, 22, 23, 24, 4, 1);
+}
+
+/* The uncertainty switched off. */
+static void live_shift(void) {
+    live =
+        torskavel_live_answer(unit, net, PLACES, corrections, ENTRIES, uncertainties, ENTRIES, 22, 23, 24, 4, 0);
+}
+
 /* How far below this function's frame a call goes, its arguments included; OWN or less counts as OWN. */
 static __attribute__((noinline)) size_t depth(void (*call)(void), unsigned char paint) {
     unsigned char *const here = (unsigned char *)__builtin_frame_address(0);
@@ -69,7 +81,7 @@ static void measure(const char *name, void (*call)(void), size_t most) {
     const size_t deepest = first > second ? first : second;
     printf("%s %zu\n", name, deepest);
     EXPECT(deepest <= most);
-    EXPECT(changed.number == 0 && answered.number == 0);
+    EXPECT(changed.number == 0 && answered.number == 0 && live.number == 0);
     if (call == build || call == inspect || call == load) unit = changed.unit;
 }
 
@@ -79,6 +91,8 @@ static void *run(void *unused) {
     measure("build", build, TORSKAVEL_MAX_STACK_BUILD);
     measure("inspect", inspect, TORSKAVEL_MAX_STACK_BUILD);
     measure("answer", answer, TORSKAVEL_MAX_STACK);
+    measure("live_answer", live_answer, TORSKAVEL_MAX_STACK);
+    measure("live_shift", live_shift, TORSKAVEL_MAX_STACK);
     return unused;
 }
 

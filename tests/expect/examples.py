@@ -8,12 +8,13 @@ Run in the repository, after `cargo build --release --offline` in evaluator/:
 
 The evaluator has no unit without a net and no order by bytes, so 21 and 2 are told here by their conditions.
 """
+import math
 import struct
 import sys
 from pathlib import Path
 
 sys.path.append(str(Path(__file__).resolve().parents[1]))
-from evaluator import ROOT, ask, net, widths
+from evaluator import ROOT, ask, live, net, widths
 
 STORED = ROOT / "examples/expected"
 FIELD = ROOT / "examples/machine.field"
@@ -55,20 +56,43 @@ class Unit:
         self.tell("inspect {} {} {} {}".format(*v), answer)
 
     def point(self, *place, divisor=2):
-        self.tell(f"point {place}/{divisor}", self.answer(place, divisor))
-
-    def answer(self, place, divisor):
-        if self.multiplicities is None:
-            return refused(21)
-        call = [*self.multiplicities, *self.sizes, *place, divisor, "--file", FIELD]
-        changes = [f"{place}={number}" for place, number in self.damage.items()]
-        word, *numbers = ask("lent-point", *call, *changes).split()
+        word, *numbers = self.evaluated(place, divisor)
         if word == "refused":
-            return refused(*numbers)
-        if not self.damage and ask("point", *call).split() != [word, *numbers]:
+            answer = refused(*numbers)
+        else:
+            shift, uncertainty, over = numbers
+            answer = f"shift {shift}/{over}, uncertainty {uncertainty}/{over}"
+        self.tell(f"point {place}/{divisor}", answer)
+
+    def live(self, *place, divisor=2, with_uncertainty=True):
+        m = sum(self.multiplicities) - 3
+        over = math.factorial(m) * divisor**m
+        call = int(with_uncertainty), *self.words(place, divisor)
+        word, *numbers = answered = live("lent-live", *call)
+        if not self.damage and live("live", *call) != answered:
+            sys.exit(f"live {place}: the net and the recurrence do not agree")
+        if word == "refused":
+            answer = refused(*numbers)
+        else:
+            told = zip(("N", "U"), ("shift", "uncertainty"), numbers)
+            answer = ", ".join(f"{name} {number:.1f}, {what} {number / over:.4f}" for name, what, number in told)
+        how = "" if with_uncertainty else ", uncertainty switched off"
+        self.tell(f"live {place}/{divisor}{how}", answer)
+
+    def evaluated(self, place, divisor):
+        """The word `answer` with N, U and the denominator, or `refused` with number and place."""
+        if self.multiplicities is None:
+            return "refused", 21
+        call = self.words(place, divisor)
+        words = ask("lent-point", *call).split()
+        if words[0] == "answer" and not self.damage and ask("point", *call).split() != words:
             sys.exit(f"point {place}: the net and the recurrence do not agree")
-        shift, uncertainty, over = numbers
-        return f"shift {shift}/{over}, uncertainty {uncertainty}/{over}"
+        return words
+
+    def words(self, place, divisor):
+        """A call on the lent net and block, as the evaluator takes it."""
+        call = [*self.multiplicities, *self.sizes, *place, divisor, "--file", FIELD]
+        return call + [f"{place}={number}" for place, number in self.damage.items()]
 
     def tell(self, call, answer):
         self.lines.append(f"{call}: {answer}\n")
@@ -84,6 +108,10 @@ def expected():
     unit.point(5, 6, 5)
     unit.point(5, 7, 5)
     unit.point(7, 5, 5)
+    unit.live(5, 5, 5)
+    unit.live(5, 5, 5, with_uncertainty=False)
+    unit.point(690, 690, 690, divisor=276)
+    unit.live(690, 690, 690, divisor=276)
     unit.inspect()
     unit.damage[0] = 1
     unit.inspect()

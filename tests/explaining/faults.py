@@ -1,12 +1,13 @@
 """What cannot be explained: command lines and streams of no use, each with a message and status 2, and a
-library that answers something else than its net and block come to, which is told with status 3."""
+library that answers something else than its net and block come to, or whose live call does not agree with
+the exact call, which is told with status 3."""
 import os
 import subprocess
 
 from evaluator import ROOT
 from explaining.told import PROGRAM, field, run, same, stop
 
-REFUSED, FAULT, DIFFERS = 1, 2, 3  # statuses
+FAULT, DIFFERS = 2, 3  # statuses
 
 
 def complained(*words, fragment="", **streams):
@@ -74,30 +75,38 @@ LIES = {
     "denominator": "answered.denominator *= 2;",
     "refusal": "answered.number = 23;",
 }
+LIVE_LIES = {
+    "answer": "answered.numerator += 0.5;",
+    "uncertainty": "answered.uncertainty -= with_uncertainty;",
+    "zero": "if (!with_uncertainty) answered.uncertainty = -0.0;",
+    "refusal": "answered.number = 15;",
+}
 LIAR = """
 #include "torskavel.h"
-typedef struct torskavel_point_answer answer;
+typedef struct torskavel_{kind}point_answer answer;
 typedef struct torskavel_unit unit;
 answer true_answer(unit, const uint32_t *, size_t, const int16_t *, size_t, const uint16_t *, size_t,
-    uint32_t, uint32_t, uint32_t, uint32_t);
-answer torskavel_answer(unit held, const uint32_t *net, size_t net_length, const int16_t *c, size_t c_length,
-    const uint16_t *u, size_t u_length, uint32_t x, uint32_t y, uint32_t z, uint32_t d) {
-    answer answered = true_answer(held, net, net_length, c, c_length, u, u_length, x, y, z, d);
-    %s
+    uint32_t, uint32_t, uint32_t, uint32_t{type});
+answer torskavel_{kind}answer(unit held, const uint32_t *net, size_t net_length, const int16_t *c,
+    size_t c_length, const uint16_t *u, size_t u_length, uint32_t x, uint32_t y, uint32_t z,
+    uint32_t d{type}{flag}) {{
+    answer answered = true_answer(held, net, net_length, c, c_length, u, u_length, x, y, z, d{comma}{flag});
+    {lie}
     return answered;
-}
+}}
 """
+EXACT = {"kind": "", "type": "", "flag": "", "comma": ""}
+LIVE = {"kind": "live_", "type": ", uint8_t", "flag": " with_uncertainty", "comma": ","}
 
 
-def liar(folder, name, lie):
+def liar(out, kind, lie):
     """The program with such a library."""
-    out = folder / name
     out.mkdir()
-    (out / "liar.c").write_text(LIAR % lie)
-    rename, archive = "--redefine-sym=torskavel_answer=true_answer", ROOT / "target/staticlib/libc_api.a"
+    (out / "liar.c").write_text(LIAR.format(**kind, lie=lie))
+    rename = f"--redefine-sym=torskavel_{kind['kind']}answer=true_answer"
     cc = [os.environ.get("CC", "cc"), "-I", ROOT / "include", "-c", "-o", out / "liar.o", out / "liar.c"]
     rustc = ["rustc", "--edition", "2024", "-L", out, "-l", "static=c_api", "-o", out / "explain"]
-    renamed = ["objcopy", rename, archive, out / "libc_api.a"]
+    renamed = ["objcopy", rename, ROOT / "target/staticlib/libc_api.a", out / "libc_api.a"]
     added = ["ar", "r", out / "libc_api.a", out / "liar.o"]
     for command in (renamed, cc, added, [*rustc, ROOT / "tools/explain/main.rs"]):
         subprocess.run(command, check=True, stderr=subprocess.DEVNULL)
@@ -106,16 +115,17 @@ def liar(folder, name, lie):
 
 def liars(good, folder):
     page = folder / "liar.html"
-    for name, lie in LIES.items():
-        program = liar(folder, name, lie)
-        lied = DIFFERS, "THE SUMS DO NOT COME TO THIS ANSWER"
-        status, said = (REFUSED, "23: the net ") if name == "refusal" else lied
-        text, complaint = run(good, "1", 2, 1, 1, 1, program=program, status=status)
-        run(good, "1", 2, 1, 1, 1, "--page", page, program=program, status=status)
-        complains = "do not come to" in complaint
-        if said not in text or said not in page.read_text() or complains != (status == DIFFERS):
-            stop(f"a library with another {name}", "nothing is said")
-    return 2 * len(LIES)
+    sums = "THE SUMS DO NOT COME TO THIS ANSWER", "the sums do not come to the library's answer"
+    live = "THE LIVE CALL DOES NOT AGREE", "the live call does not agree with the exact call"
+    lies = [(EXACT, *lie, live if lie[0] == "refusal" else sums) for lie in LIES.items()]
+    lies += [(LIVE, *lie, live) for lie in LIVE_LIES.items()]
+    for kind, name, lie, (said, complains) in lies:
+        program = liar(folder / (kind["kind"] + name), kind, lie)
+        text, complaint = run(good, "1", 2, 1, 1, 1, program=program, status=DIFFERS)
+        run(good, "1", 2, 1, 1, 1, "--page", page, program=program, status=DIFFERS)
+        if said not in text or said not in page.read_text() or complains not in complaint:
+            stop(f"a library with another {kind['kind']}{name}", "nothing is said")
+    return 2 * len(lies)
 
 
 def tried(folder):

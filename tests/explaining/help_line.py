@@ -6,15 +6,15 @@ import shlex
 from fractions import Fraction
 
 from evaluator import ROOT, net, prints, widths
-from explaining.scene import LARGEST
+from explaining.scene import LARGEST, LARGEST_LIVE
 from explaining.refusals import NUMBERS
 from explaining.told import numbers, run, same, sections, stop
 
 PAGE = ROOT / "docs/HOW-A-FIGURE-COMES-ABOUT.md"
 FIELD = "examples/table.field"
 ACTS = {"The fitter acts": "the fitter", "The surveyor acts": "the surveyor", "Firmware acts": "firmware"}
-# Numbers in the lists of refusals that are no limits of the library: bytes of sizes and text, 2^48, places.
-OTHERS = {0, 1, 2, 4, 6, 14, 48, 49, 52, 2197}
+# Numbers in the lists of refusals that are no limits of the library: bytes of sizes and text, powers, places.
+OTHERS = {0, 1, 2, 4, 6, 14, 37, 48, 49, 52, 2197}
 
 
 def printed(command):
@@ -144,12 +144,17 @@ def check_refusals(by_heading):
     declared = re.findall(r"Refused by\s+([\d, \n*]+\d)", header)
     checks = [row[1] for row in rows(by_heading["When the unit refuses"]) if row[0] != "call"]
     same("checks", "order", [numbers(check) for check in checks], [numbers(check) for check in declared])
-    table = {row[0]: row[1:] for row in rows(by_heading["Firmware acts"])}
+    check_divisors({row[0]: row[1:] for row in rows(by_heading["Firmware acts"])})
+
+
+def check_divisors(table):
+    """The largest divisors by degree, of the exact call and of the live call."""
     same("divisors", "degrees", table["degree"], [str(m) for m in range(1, 10)])
-    same("divisors", "largest", table["largest divisor"], list(map(str, LARGEST)))
-    for m, divisor in enumerate(LARGEST, 1):
-        fits = [d <= 4096 and math.factorial(m) * d**m <= 2**48 for d in (divisor, divisor + 1)]
-        same("divisors", f"largest of degree {m}", fits, [True, False])
+    for name, divisors, power in (("largest divisor", LARGEST, 48), ("in a live call", LARGEST_LIVE, 37)):
+        same("divisors", name, table[name], list(map(str, divisors)))
+        for m, divisor in enumerate(divisors, 1):
+            fits = [d <= 4096 and math.factorial(m) * d**m <= 2**power for d in (divisor, divisor + 1)]
+            same("divisors", f"{name} of degree {m}", fits, [True, False])
 
 
 def tried(_folder):

@@ -8,7 +8,7 @@ from fractions import Fraction
 
 from evaluator import ask, net, widths
 from explaining.scene import LARGEST, SEED, Scene, random_numbers
-from explaining.told import Told, field, numbers, run, same
+from explaining.told import Told, field, live, numbers, run, same
 
 
 def placing(point, divisor, sizes):
@@ -163,9 +163,11 @@ def check_answer(case, told):
 def answered(scene, point, divisor, all_places=False):
     case = f"order {scene.order!r}, point {point} over {divisor}"
     words = [scene.path, scene.order, *point, divisor] + ["--all"] * all_places
-    told = Told(run(*words)[0])
+    text, _ = run(*words)
+    told = Told(text)
     answer, *figure = scene.evaluated(point, divisor)
     same(case, "answer", ("answer", *told.figure), (answer, *map(int, figure)))
+    same(case, "live call", live(text), scene.live(divisor, answer, *figure))
     cell, u, axes, weights = placing(point, divisor, scene.sizes)
     right = (list(scene.v), scene.m, scene.extents, widths(scene.v), list(scene.sizes))
     same(case, "shape", (told.multiplicities, told.degree, told.extents, told.box, told.sizes), right)

@@ -5,9 +5,9 @@ import random
 from evaluator import ask, prints
 from explaining.faults import complained
 from explaining.scene import LARGEST, SEED, Scene, random_numbers
-from explaining.told import field, place, run, same, sections, stop
+from explaining.told import field, live, place, run, same, sections, stop
 
-NUMBERS = [*range(1, 15), 21, 22, 23]
+NUMBERS = [*range(1, 16), 21, 22, 23]
 CONCERNED = ("the fitter", "the surveyor", "firmware")
 REFUSED = 1  # the status
 
@@ -67,6 +67,7 @@ def refused(scene, point, divisor):
     same(case, "evaluated", answer, "refused")
     text, _ = run(scene.path, scene.order, *point, divisor, status=REFUSED)
     same(case, "above", sections(text)[0], f"refused by {number}")
+    same(case, "live call", live(text), scene.live(divisor, answer, number, index))
     begins(case, text, WORDS[number].format(place(int(index), scene.sizes)))
     [(_, said)] = told(case, text)
     same(case, "axes", said[:-2], list(outside(scene, point, divisor)) if number == "12" else [])
@@ -189,7 +190,7 @@ def asked(folder):
         begins("no entry", text, f"{number}: entry number 120, which this file does not have")
     begins("no net place", run(path, "132", "--refused", 14, 2197)[0], differs + "number 2197, which")
     begins("beside another", run(path, "9", "--refused", 21, 0, status=REFUSED)[0], "2: ", "21: ")
-    bad = [(number, 0) for number in (0, 15, 20, 24, -1, "x", 2**32)]
+    bad = [(number, 0) for number in (0, 16, 20, 24, -1, "x", 2**32)]
     for words in bad + [(13, "x"), (13, -1), (13,), (13, 0, 1, 1, 1, 1)]:
         complained(path, "132", "--refused", *words)
     return len(NUMBERS) + 16

@@ -6,6 +6,8 @@ from explaining.told import GAP, field
 
 SEED = 14
 LARGEST = (4096, 4096, 4096, 1850, 297, 85, 34, 17, 9)  # divisors for the degrees 1 to 9
+LARGEST_LIVE = (4096, 4096, 2840, 275, 64, 23, 11, 6, 4)  # and in a live call
+LIVE = 137438953472  # the largest denominator there, 2^37
 
 
 class Scene:
@@ -23,6 +25,22 @@ class Scene:
 
     def evaluated(self, point, divisor):
         return ask("point", *self.v, *self.sizes, *point, divisor, "--file", self.path).split()
+
+    def live(self, divisor, answer, *numbers):
+        """What is told of the live call, where the exact call is answered or refused with these numbers."""
+        m, before = self.m, f", looked at before {numbers[0]}" if answer == "refused" else ""
+        denominator = math.factorial(m) * divisor**m
+        if before and numbers[0] in ("10", "11"):
+            return []
+        if denominator > LIVE:
+            power = f"{m}! x {divisor}^{m} = {denominator}"
+            largest = f"the largest divisor for degree {m} in a live call is {LARGEST_LIVE[m - 1]}"
+            return [f"refused by 15{before}: {power} is above 2^37 = {LIVE}", largest]
+        if before:
+            return []
+        n, u = map(float, numbers[:2])
+        told = f"N {n}, U {u}: the same numbers as floats, over the same denominator"
+        return [told, f"with the uncertainty switched off: N {n}, U 0.0"]
 
     def index(self, entry):
         return entry[0] + self.sizes[0] * (entry[1] + self.sizes[1] * entry[2])

@@ -60,6 +60,11 @@ def sections(text):
     return above.partition("\n")[2].strip(), found
 
 
+def live(text):
+    """What is told of the live call, line by line."""
+    return [line.strip() for line in sections(text)[1].get("The live call", [])]
+
+
 def matched(lines, pattern):
     """The numbers of the one line that begins like this."""
     [line] = [line for line in lines if re.match("  " + pattern, line)]

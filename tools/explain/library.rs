@@ -1,8 +1,9 @@
-//! What the library holds and answers: the net of an order, the block of a file, the answer of a point.
+//! What the library holds and answers: the net of an order, the block of a file, the answers of a point.
 
-use crate::torskavel::{self, MAX_ENTRIES, MAX_PLACES, NEVER_MEASURED, PointAnswer, Unit};
+use crate::live;
+use crate::torskavel::{self, LivePointAnswer, MAX_ENTRIES, MAX_PLACES, NEVER_MEASURED, PointAnswer, Unit};
 
-#[derive(Clone, Copy)]
+#[derive(Clone, Copy, PartialEq, Eq)]
 pub struct Refusal {
     pub number: u32,
     pub place: usize,
@@ -126,4 +127,26 @@ pub fn answer(
         uncertainty: uncertainty.into(),
         denominator: denominator.into(),
     })
+}
+
+pub fn live_answer(
+    unit: Unit,
+    net: &Net,
+    block: &Block,
+    point: [u32; 3],
+    divisor: u32,
+    with_uncertainty: bool,
+) -> live::Answer {
+    let Block { corrections, uncertainties, .. } = block;
+    let answer = torskavel::live_answer(
+        unit,
+        &net.numbers,
+        corrections,
+        uncertainties,
+        point,
+        divisor,
+        with_uncertainty,
+    );
+    let LivePointAnswer { number, place, numerator, uncertainty } = answer;
+    if number != 0 { Err(Refusal { number, place }) } else { Ok([numerator, uncertainty]) }
 }

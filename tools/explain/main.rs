@@ -7,8 +7,10 @@ mod torskavel;
 
 mod cell_picture;
 mod decimal;
+mod divisors;
 mod layers_picture;
 mod library;
+mod live;
 mod page;
 mod parts;
 mod placing;
@@ -87,14 +89,15 @@ fn explain(request: &Request) -> Result<End, String> {
         None => print(&text::written(&parts))?,
         Some(path) => write_page(path, &request.file, &page::written(&parts))?,
     }
-    Ok(match walk.outcome {
-        Outcome::Told | Outcome::Agreed(_) => End::Told,
-        Outcome::Refused(_) => End::Refused,
-        Outcome::Differs(_) => {
-            complain("the sums do not come to the library's answer");
-            End::Differs
-        }
-    })
+    if matches!(walk.outcome, Outcome::Differs(_)) {
+        complain("the sums do not come to the library's answer");
+        return Ok(End::Differs);
+    }
+    if walk.live.is_some_and(|live| !live.agrees()) {
+        complain("the live call does not agree with the exact call");
+        return Ok(End::Differs);
+    }
+    Ok(if matches!(walk.outcome, Outcome::Refused(_)) { End::Refused } else { End::Told })
 }
 
 fn main() -> ExitCode {

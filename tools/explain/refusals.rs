@@ -1,11 +1,11 @@
 //! Refusals in words: what is wrong, whom it concerns, and what to do.
 
-use crate::library::{Refusal, place_of};
+use crate::divisors;
+use crate::library::{Net, Refusal, place_of};
 use crate::parts::{Part, bracketed, words};
 use crate::placing::Placing;
 use crate::request::Question;
-use crate::sums::factorial;
-use crate::torskavel::{self, MAX_DENOMINATOR, MAX_DIVISOR, refused};
+use crate::torskavel::{self, refused};
 use crate::walk::{Outcome, Walk};
 
 const FITTER: &str = "the fitter";
@@ -23,7 +23,7 @@ fn words_of(wrong: impl Into<String>, concerns: &'static str, to_do: impl Into<S
 }
 
 pub fn is_one(number: u32) -> bool {
-    matches!(number, refused::ORDER_LENGTH..=refused::NET_DIFFERS | refused::NO_NET..=refused::SHARES)
+    matches!(number, refused::ORDER_LENGTH..=refused::LIVE_DENOMINATOR | refused::NO_NET..=refused::SHARES)
 }
 
 /// An index of the table as its entry; a unit with another table may have named one that is not there.
@@ -41,15 +41,6 @@ fn net_place(walk: &Walk, place: usize) -> String {
         Ok(net) if place < net.places() => format!("net place {}", bracketed(&place_of(place, net.widths()))),
         _ => format!("net place number {place}, which this order's net does not have"),
     }
-}
-
-/// The largest divisor that a degree allows.
-fn largest_divisor(degree: usize) -> u32 {
-    let fits = |divisor: &u32| {
-        let denominator = factorial(degree) * i128::from(*divisor).pow(degree as u32);
-        denominator <= i128::from(MAX_DENOMINATOR)
-    };
-    (1..=MAX_DIVISOR).take_while(fits).last().unwrap_or(0)
 }
 
 fn of_order(walk: &Walk, number: u32, place: usize) -> Words {
@@ -132,16 +123,8 @@ fn of_file(walk: &Walk, number: u32, place: usize) -> Words {
 }
 
 fn of_divisor(walk: &Walk, number: u32) -> Words {
-    let wrong = match (&walk.net, number) {
-        (_, refused::DIVISOR) => "the divisor is 0 or above 4096".to_string(),
-        (Ok(net), _) => format!("the denominator {m}! x D^{m} would pass 2^48", m = net.degree()),
-        (Err(_), _) => "the denominator would pass 2^48".to_string(),
-    };
-    let to_do = walk.net.as_ref().map_or("send a smaller divisor".to_string(), |net| {
-        let degree = net.degree();
-        format!("send a divisor from 1 to {}, the largest for degree {degree}", largest_divisor(degree))
-    });
-    words_of(wrong, FIRMWARE, to_do)
+    let degree = walk.net.as_ref().ok().map(Net::degree);
+    words_of(divisors::wrong(degree, number), FIRMWARE, divisors::to_do(degree, number))
 }
 
 /// What keeps a point outside, axis by axis; without a point, what is inside.
@@ -204,15 +187,15 @@ fn tell(walk: &Walk, Refusal { number, place }: Refusal, parts: &mut Vec<Part>) 
         refused::ORDER_LENGTH | refused::ORDER_BYTE => of_order(walk, number, place),
         refused::MULTIPLICITIES | refused::NET_LENGTH | refused::NET_DIFFERS => of_net(walk, number, place),
         refused::NO_NET | refused::SHARES => of_net(walk, number, place),
-        refused::DIVISOR | refused::DENOMINATOR | refused::OUTSIDE | refused::UNMEASURED => {
-            of_point(walk, number, place)
-        }
+        refused::DIVISOR..=refused::UNMEASURED | refused::LIVE_DENOMINATOR => of_point(walk, number, place),
         _ => of_file(walk, number, place),
     };
     let mut line = |text: String| parts.push(Part::Line(text));
     line(format!("{number}: {wrong}"));
-    if number == refused::OUTSIDE {
-        outside(walk, walk.placing.as_ref()).into_iter().for_each(&mut line);
+    match number {
+        refused::OUTSIDE => outside(walk, walk.placing.as_ref()).into_iter().for_each(&mut line),
+        refused::LIVE_DENOMINATOR => line(divisors::LOOKED_AT.to_string()),
+        _ => {}
     }
     line(format!("concerns {concerns}"));
     line(format!("to do: {to_do}"));

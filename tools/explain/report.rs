@@ -7,7 +7,7 @@ use crate::placing::{Placing, Window, plain_reading};
 use crate::request::Question;
 use crate::sums::{Counted, LocalPlace, Sums, factorial};
 use crate::walk::{Outcome, Walk};
-use crate::{cell_picture, layers_picture, refusals, tables};
+use crate::{cell_picture, layers_picture, live, refusals, tables};
 
 /// The decimals of a position and of a figure in tenths of a micrometre.
 const DECIMALS: u32 = 3;
@@ -232,5 +232,6 @@ pub fn parts(walk: &Walk, all: bool) -> Vec<Part> {
         outcome(walk, net, walk.placing.as_ref(), all, &mut parts);
     }
     refusals::told(walk, &mut parts);
+    live::told(walk, &mut parts);
     parts
 }

@@ -21,7 +21,7 @@ D are whole numbers from 0 to 4294967295.
 
 Ends with 0 where the point was answered or the refusal told, 1 where the file, the order or the point is
 refused, 2 where the command line is wrong or something cannot be read or written, 3 where the sums do not
-come to the library's answer.
+come to the library's answer, or its live call does not agree with it.
 ";
 
 #[derive(Clone, Copy)]
@@ -108,7 +108,7 @@ fn refusal((number, place): (OsString, OsString), rest: &[OsString]) -> Result<Q
         return Err("with --refused no point is wanted; explain --help".to_string());
     }
     let number = number.to_str().and_then(|word| word.parse().ok()).filter(|&n| crate::refusals::is_one(n));
-    let number = number.ok_or("--refused wants the number of a refusal: 1 to 14, 21, 22 or 23")?;
+    let number = number.ok_or("--refused wants the number of a refusal: 1 to 15, 21, 22 or 23")?;
     let place = place.to_str().and_then(|word| word.parse().ok());
     let place =
         place.ok_or("--refused wants the place as a whole number; it is 0 where the unit names none")?;

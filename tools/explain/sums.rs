@@ -67,6 +67,11 @@ pub fn factorial(n: usize) -> i128 {
     (1..=n as i128).product()
 }
 
+/// m! × D^m, for a divisor whose powers fit.
+pub fn denominator(degree: usize, divisor: u32) -> i128 {
+    factorial(degree) * i128::from(divisor).pow(degree as u32)
+}
+
 /// All b0, b1, b2, b3 with the sum m.
 fn exponents(m: usize) -> Vec<[usize; 4]> {
     let mut all = Vec::new();
@@ -133,7 +138,7 @@ impl Sums {
         let figure = Figure {
             numerator: places.iter().map(LocalPlace::to_numerator).sum(),
             uncertainty: places.iter().map(LocalPlace::to_uncertainty).sum(),
-            denominator: factorial(net.degree()) * i128::from(placing.divisor).pow(net.degree() as u32),
+            denominator: denominator(net.degree(), placing.divisor),
         };
         let counted = entries.iter().map(|&entry| counted(entry, &places)).collect();
         Sums { places, counted, figure }

@@ -1,6 +1,7 @@
 //! The whole way from file, order and point to the answer, or to the refusal that ends it.
 
 use crate::library::{self, Block, Figure, Net, Refusal};
+use crate::live::Live;
 use crate::parts::shown;
 use crate::placing::{Placing, Window};
 use crate::request::{Question, Request};
@@ -23,6 +24,8 @@ pub struct Walk {
     pub placing: Option<Placing>,
     pub window: Option<Window>,
     pub sums: Option<Sums>,
+    /// Where a point was asked.
+    pub live: Option<Live>,
     pub outcome: Outcome,
 }
 
@@ -58,6 +61,7 @@ impl Walk {
             placing: None,
             window: None,
             sums: None,
+            live: None,
             outcome: Outcome::Told,
         };
         walk.ask(unit);
@@ -75,6 +79,7 @@ impl Walk {
         };
         let Question::Point { coordinates, divisor } = self.question else { return };
         let answer = library::answer(unit, net, block, coordinates, divisor);
+        self.live = Some(Live::of(unit, net, block, coordinates, divisor, &answer));
         let refused = answer.as_ref().err().map_or(0, |refusal| refusal.number);
         self.placing = Placing::of(coordinates, divisor, block.sizes);
         // 10 and 11 come before the window is looked at, and keep the powers of the divisor small

@@ -19,7 +19,7 @@ mod tests;
 pub use build::{build, build_tuned};
 pub use inspect::{defined_order, inspect, inspect_tuned};
 pub use load::{Load, load, load_tuned};
-pub use point::{Call, Fraction, TUNED, answer};
+pub use point::{Call, Fraction, LIVE_TUNED, TUNED, answer, live_answer};
 
 use crate::torskavel::{Unit, UnitAnswer};
 

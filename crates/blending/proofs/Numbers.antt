@@ -32,6 +32,14 @@ most = refl
 pub count-most : (m : ℕ) → m ≤ 9 → localPlaces m ≤ 220
 count-most m h = omega (arith, count-is m h, tetrahedron-le (suc m) 10 (omega arith), most)
 
+least : tetrahedron 1 ≡ 1
+unfolding tetrahedron triangle
+least = refl
+
+-- and one at least
+pub count-least : (m : ℕ) → m ≤ 9 → 1 ≤ localPlaces m
+count-least m h = omega (arith, count-is m h, tetrahedron-le 1 (suc m) (omega arith), least)
+
 -- ---- which one stands where
 
 after-s : (p r s : ℕ) → s < r → localAfter (local p r s) ≡ local p r (s + 1)

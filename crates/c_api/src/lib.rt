@@ -9,7 +9,9 @@ ghost use Rattle.net.specs.Build.{buildAnswer, buildNet, buildWork};
 ghost use Rattle.inspection.specs.Inspect.{inspectAnswer};
 ghost use Rattle.field.specs.Load.{loadAnswer, loadCorrections, loadUncertainties};
 ghost use Rattle.point.specs.Answer.{pointAnswer};
-ghost use Rattle.flat.specs.Flat.{emptyFlat, unitOf, flatNet, flatBlock, flatPoint};
+ghost use Rattle.live.specs.Answer.{liveAnswer};
+ghost use Rattle.flat.specs.Flat.{emptyFlat, unitOf, flatNet, flatBlock, flatPoint, flatLive, switchedOn};
+use flat::FlatLiveAnswer;
 use flat::FlatPointAnswer;
 use flat::FlatUnit;
 use flat::FlatUnitAnswer;
@@ -111,4 +113,35 @@ pub extern "C" fn torskavel_answer(
 {
     let handed = flat::unit_of(unit);
     flat::flat_point(point::answer(handed, net, corrections, uncertainties, x, y, z, divisor))
+}
+
+// `live::answer`.
+#[no_mangle]
+pub extern "C" fn torskavel_live_answer(
+    unit: FlatUnit,
+    net: &[u32],
+    corrections: &[i16],
+    uncertainties: &[u16],
+    x: u32,
+    y: u32,
+    z: u32,
+    divisor: u32,
+    with_uncertainty: u8,
+) -> FlatLiveAnswer
+    ensures { λ r. ⌜ r ≡ flatLive (liveAnswer (unitOf unit) (now (net .entry)) (now (corrections .entry))
+        (now (uncertainties .entry)) x y z divisor (switchedOn «with_uncertainty»)) ⌝ }
+{
+    let handed = flat::unit_of(unit);
+    let on = flat::switched_on(with_uncertainty);
+    flat::flat_live(live::answer(
+        handed,
+        net,
+        corrections,
+        uncertainties,
+        x,
+        y,
+        z,
+        divisor,
+        on,
+    ))
 }

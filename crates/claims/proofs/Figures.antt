@@ -10,7 +10,8 @@ use Rattle.spline.specs.Build.{built, simple, stepped, sumBack}
 use Rattle.spline.specs.Multiplicities.{allowed}
 use Rattle.spline.specs.Rule.{lowerAbove}
 use Rattle.unit.specs.Unit.{hasBlock, hasNet, sizeAllowed, sizesAllowed}
-use Rattle.placing.specs.Place.{divisorChecks, insideCheck, lentChecks, pointChecks, unitChecks}
+use lib.Ieee.{ofBits, ofInt}
+use Rattle.placing.specs.Place.{divisorChecks, insideCheck, lentChecks, liveCheck, pointChecks, unitChecks}
 use Rattle.placing.specs.Placing.{inside, located, placing, rankAxes, withThird}
 use Rattle.blending.specs.Blend.{windowChecks}
 use Rattle.point.specs.Answer.{pointAnswer, valueAnswer}
@@ -18,16 +19,21 @@ use Rattle.blending.specs.Blending.{addsUp, allSimplex, blendedCorrection, blen
 use Rattle.blending.specs.Blending.{share, shareSum}
 use Rattle.blending.specs.Gaps.{firstGap, windowGap}
 use Rattle.point.specs.Bernstein.{shiftNumerator, uncertaintyNumerator}
+use Rattle.live.specs.Answer.{liveAnswer, liveChecks}
 use Rattle.claims.specs.Demands.{AllFigures}
-use Rattle.claims.specs.Figures.{AllHold, pointFigures}
+use Rattle.claims.specs.Figures.{AllHold, liveFigures, pointFigures}
 
 pub all-figures : AllFigures
 unfolding sumTo sumZ sumBox sumBoxZ factorial multinomial sumSimplex sumSimplexZ bernstein allTo first
     tabulate lowerAbove simple sumBack stepped built allowed netList hasNet sizeAllowed sizesAllowed hasBlock
     located inside withThird rankAxes placing localPlace share shareSum blendedCorrection blendedUncertainty
     shiftNumerator uncertaintyNumerator allSimplex addsUp windowGap firstGap unitChecks divisorChecks
-    insideCheck pointChecks lentChecks windowChecks valueAnswer pointAnswer
+    insideCheck pointChecks lentChecks windowChecks valueAnswer pointAnswer liveCheck liveChecks liveAnswer
+    ofInt ofBits
 all-figures = (refl, ((refl, refl, refl), (refl, (refl, (refl, (refl, (refl, (refl, points))))))))
   where
+    lives : AllHold liveFigures
+    lives = (refl, (refl, ((refl, refl), (refl, (refl, (refl, (refl, (refl, tt))))))))
+
     points : AllHold pointFigures
-    points = (refl, (refl, (refl, (refl, (refl, (refl, tt))))))
+    points = (refl, (refl, (refl, (refl, (refl, (refl, lives))))))

@@ -3,11 +3,13 @@ use Rattle.net.specs.Build.{buildAnswer}
 use Rattle.inspection.specs.Inspect.{inspectAnswer}
 use Rattle.field.specs.Load.{loadAnswer}
 use Rattle.point.specs.Answer.{pointAnswer}
-use Rattle.flat.proofs.Meaning.{block-number, net-number, point-number}
-use Rattle.flat.specs.Flat.{unitOf}
+use Rattle.live.specs.Answer.{liveAnswer}
+use Rattle.flat.proofs.Meaning.{block-number, live-number, net-number, point-number}
+use Rattle.flat.specs.Flat.{switchedOn, unitOf}
 use Rattle.claims.proofs.Refusals.{not-zero}
 use Rattle.claims.specs.Demands.{FlatNumbers}
-use Rattle.claims.specs.Refusals.{by-build, by-inspection, by-load, by-point}
+use Rattle.claims.specs.Live.{FlatLiveNumbers}
+use Rattle.claims.specs.Refusals.{by-build, by-inspection, by-live, by-load, by-point}
 
 pub flat-numbers : FlatNumbers
 flat-numbers u = (
@@ -24,3 +26,8 @@ flat-numbers u = (
       point-number (pointAnswer (unitOf u) net corrections uncertainties x y z D)
       (λ r h. not-zero r (by-point (unitOf u) net corrections uncertainties x y z D h)),
 )
+
+pub flat-live-numbers : FlatLiveNumbers
+flat-live-numbers u net corrections uncertainties x y z D flag =
+    live-number (liveAnswer (unitOf u) net corrections uncertainties x y z D (switchedOn flag))
+    (λ r h. not-zero r (by-live (unitOf u) net corrections uncertainties x y z D (switchedOn flag) h))

@@ -12,4 +12,7 @@ pub mod Admitted
 pub mod Figures
 pub mod Refusals
 pub mod FlatNumbers
+pub mod NumeratorSizes
+pub mod Live
+pub mod LiveExact
 pub mod Unchanged

@@ -25,8 +25,8 @@ use Rattle.inspection.specs.Inspect.{definedNumber, differsFrom, inspectAnswer,
 use Rattle.field.specs.File.{entryCount, fileLength, headerLength, size1, size2, size3, uncertainty}
 use Rattle.field.specs.Load.{layoutChecks, limitCheck, loadAnswer, loadChecks}
 use Rattle.placing.proofs.Placed.{refused-by}
-use Rattle.placing.specs.Place.{divisorChecks, insideCheck, lentChecks, limit, placeAnswer}
-use Rattle.placing.specs.Place.{pointChecks, scale, unitChecks}
+use Rattle.placing.specs.Place.{divisorChecks, insideCheck, lentChecks, limit, liveCheck, liveLimit}
+use Rattle.placing.specs.Place.{placeAnswer, pointChecks, scale, unitChecks}
 use Rattle.placing.specs.Placing.{cells, inside, placing, placingCell, sizes}
 use Rattle.placing.specs.declared.Placing.{Placing}
 use Rattle.blending.specs.Blend.{blendAnswer, blendChecks, correctionAt, numberAt, windowChecks}
@@ -35,9 +35,11 @@ use Rattle.blending.specs.Blending.{addsUp}
 use Rattle.blending.specs.Gaps.{firstGap}
 use Rattle.point.specs.declared.PointAnswer.{PointAnswer}
 use Rattle.point.specs.declared.PointAnswer.the-variants.{Refused}
+use Rattle.live.specs.Answer.{liveAnswer, liveChecks}
+use Rattle.claims.proofs.Live.{live-stopped}
 use Rattle.claims.specs.Demands.{NotZero, Numbers}
-use Rattle.claims.specs.Refusals.{by-blending, by-build, by-inspection, by-load, by-placing, by-point}
-use Rattle.claims.specs.Refusals.{listed}
+use Rattle.claims.specs.Refusals.{by-blending, by-build, by-inspection, by-live, by-load, by-placing}
+use Rattle.claims.specs.Refusals.{by-point, listed}
 
 -- ---- checks in a row
 
@@ -109,13 +111,21 @@ lent-numbered u netLength correctionsLength uncertaintiesLength =
     (if-numbered 4 (ltb netLength (places (width (netOf u)))) _ refl
     (if-numbered 9 (ltb correctionsLength n || ltb uncertaintiesLength n) Passed refl tt))
 
+divisor-numbered : (v : Multiplicities) (D : ℕ) → Numbered (divisorChecks v D)
+unfolding divisorChecks
+divisor-numbered v D =
+    if-numbered 10 (eqb D 0 || ltb 4096 D) _ refl
+    (if-numbered 11 (ltb limit (scale (degree v) D)) Passed refl tt)
+
+inside-numbered : (v : Multiplicities) (n k : Axis → ℕ) → Numbered (insideCheck v n k)
+unfolding insideCheck
+inside-numbered v n k = if-numbered 12 (not (inside v n k)) Passed refl tt
+
 point-numbered : (u : Unit) (x y z D : ℕ) → Numbered (pointChecks u x y z D)
-unfolding pointChecks divisorChecks insideCheck
+unfolding pointChecks
 point-numbered u x y z D =
-    then-numbered (divisorChecks (netOf u) D) _
-    (if-numbered 10 (eqb D 0 || ltb 4096 D) _ refl
-    (if-numbered 11 (ltb limit (scale (degree (netOf u)) D)) Passed refl tt))
-    (if-numbered 12 (not (inside (netOf u) (sizes u) (cells u x y z D))) Passed refl tt)
+    then-numbered (divisorChecks (netOf u) D) _ (divisor-numbered (netOf u) D)
+    (inside-numbered (netOf u) (sizes u) (cells u x y z D))
 
 window-numbered : (v : Multiplicities) (n : Axis → ℕ) (net : ℕ → ℕ) (corrections : ℕ → ℕ → ℕ → ℤ)
     (q : Placing) → Numbered (windowChecks v n net corrections q)
@@ -133,6 +143,22 @@ blend-numbered u net corrections uncertainties x y z D =
     (then-numbered (pointChecks u x y z D) _ (point-numbered u x y z D)
     (window-numbered (netOf u) (sizes u) (numberAt net) (correctionAt (sizes u) corrections)
     (placing u x y z D)))
+
+live-numbered : (u : Unit) (net : List ℕ) (corrections : List ℤ) (uncertainties : List ℕ) (x y z D : ℕ)
+    → Numbered (liveChecks u net corrections uncertainties x y z D)
+unfolding liveChecks liveCheck
+live-numbered u net corrections uncertainties x y z D =
+    let v = netOf u in
+    let inner = insideCheck v (sizes u) (cells u x y z D) in
+    let window = windowChecks v (sizes u) (numberAt net) (correctionAt (sizes u) corrections)
+    (placing u x y z D) in
+    then-numbered (lentChecks u (length net) (length corrections) (length uncertainties)) _
+    (lent-numbered u (length net) (length corrections) (length uncertainties))
+    (then-numbered (divisorChecks v D) _ (divisor-numbered v D)
+    (then-numbered (liveCheck v D) (andThen inner window)
+    (if-numbered 15 (ltb liveLimit (scale (degree v) D)) Passed refl tt)
+    (then-numbered inner window (inside-numbered v (sizes u) (cells u x y z D))
+    (window-numbered v (sizes u) (numberAt net) (correctionAt (sizes u) corrections) (placing u x y z D)))))
 
 -- ---- the answers
 
@@ -156,7 +182,7 @@ value-numbered v n net corrections uncertainties q D h =
     h
 
 pub numbers : Numbers
-unfolding buildAnswer inspectAnswer loadAnswer placeAnswer blendAnswer pointAnswer
+unfolding buildAnswer inspectAnswer loadAnswer placeAnswer blendAnswer pointAnswer liveAnswer
 numbers r (by-build u order netLength workLength h) =
     stopped-numbered (build-numbered order netLength workLength)
     (unit-refused (buildChecks order netLength workLength) _ h)
@@ -181,6 +207,9 @@ numbers r (by-point u net corrections uncertainties x y z D h) =
     (point-numbered u x y z D))
     (λ e. value-numbered _ _ _ _ _ _ D e)
     h
+numbers r (by-live u net corrections uncertainties x y z D flag h) =
+    stopped-numbered (live-numbered u net corrections uncertainties x y z D)
+    (live-stopped (liveChecks u net corrections uncertainties x y z D) flag _ _ h)
 
 pub not-zero : NotZero
 not-zero r met e = false-true (sym (ap listed e) ∙ numbers r met)

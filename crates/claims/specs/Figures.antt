@@ -3,19 +3,25 @@ use mathlib.Core.List.{List, [], _∷_}
 use mathlib.Core.Path.{_≡_}
 use mathlib.Core.Bool.{true}
 use Prim.Native.Nat.{ℕ}
+use lib.Ieee.{binary64, ofBits}
 use lib.IntN.{negsuc, pos, ℤ}
+use Rattle.sums.specs.Fill.{tabulate}
 use Rattle.spline.specs.Box.{netList, width}
 use Rattle.spline.specs.Build.{orderNet, simple}
 use Rattle.spline.specs.Multiplicities.{multiplicities, orderMultiplicities}
 use Rattle.spline.specs.Place.{a1, a2, a3, place}
 use Rattle.unit.specs.Checks.{refusal}
+use Rattle.unit.specs.Unit.{netOf}
 use Rattle.unit.specs.declared.Checked.{Checked}
 use Rattle.unit.specs.declared.Checked.the-variants.{Passed, Stopped}
 use Rattle.unit.specs.declared.Unit.{Unit}
-use Rattle.placing.specs.Place.{pointChecks}
+use Rattle.placing.specs.Place.{divisorChecks, liveCheck, pointChecks}
 use Rattle.point.specs.Answer.{pointAnswer}
 use Rattle.point.specs.declared.PointAnswer.{PointAnswer}
 use Rattle.point.specs.declared.PointAnswer.the-variants.{Refused, Value}
+use Rattle.live.specs.Answer.{liveAnswer}
+use Rattle.live.specs.declared.LiveAnswer.{LiveAnswer}
+use Rattle.live.specs.declared.LiveAnswer.the-variants as lives
 
 -- a unit with a net of v1..v4 and a block of n1, n2, n3
 abbrev pub unitWith : ℕ → ℕ → ℕ → ℕ → ℕ → ℕ → ℕ → Unit
@@ -43,6 +49,13 @@ pub data Figure : Type 0 where
   point : List ℤ → ℕ → ℕ → ℕ → ℕ → ℤ → ℕ → ℕ → Figure
   -- the same net and block: a point and a divisor, and the number of the refusal, whose place is 0
   refused : List ℤ → ℕ → ℕ → ℕ → ℕ → ℕ → Figure
+  -- a unit and a divisor that none of 10, 11, 15 refuses
+  liveDivisor : Unit → ℕ → Figure
+  -- the same net and block: a point and a divisor, and the bits of N and U in a live call
+  live : List ℤ → ℕ → ℕ → ℕ → ℕ → ℕ → ℕ → Figure
+  -- a unit of one entry, and a net slice of so many zeros: a divisor at the point 0, 0, 0, and the number of
+  -- the refusal of a live call, whose place is 0
+  liveRefused : Unit → ℕ → ℕ → ℕ → Figure
 
 -- the numbers of the simple net, in index order
 abbrev pub simpleNumbers : List ℕ
@@ -56,6 +69,11 @@ abbrev pub smallAnswer : List ℤ → ℕ → ℕ → ℕ → ℕ → PointAnswe
 smallAnswer corrections x y z D =
     pointAnswer (unitWith 1 1 1 1 2 2 2) simpleNumbers corrections eightFives x y z D
 
+-- what the live call does, with the uncertainty
+abbrev pub smallLive : List ℤ → ℕ → ℕ → ℕ → ℕ → LiveAnswer
+smallLive corrections x y z D =
+    liveAnswer (unitWith 1 1 1 1 2 2 2) simpleNumbers corrections eightFives x y z D true
+
 -- what a figure says of the definitions
 abbrev pub Holds : Figure → Type 0
 Holds (number order x y z n) = orderNet order (place (pos x) (pos y) (pos z)) ≡ n
@@ -67,6 +85,12 @@ Holds (divisor u x y z D checked) = pointChecks u x y z D ≡ checked
 Holds (point corrections x y z D N U d) =
     smallAnswer corrections x y z D ≡ Value (record { numerator = N; uncertainty = U; denominator = d })
 Holds (refused corrections x y z D n) = smallAnswer corrections x y z D ≡ Refused (refusal n 0)
+Holds (liveDivisor u D) = (divisorChecks (netOf u) D ≡ Passed) × (liveCheck (netOf u) D ≡ Passed)
+Holds (live corrections x y z D N U) =
+    smallLive corrections x y z D
+    ≡ lives.Both (record { numerator = ofBits binary64 N; uncertainty = ofBits binary64 U })
+Holds (liveRefused u places D n) =
+    liveAnswer u (tabulate (λ i. 0) places) (pos 0 ∷ []) (0 ∷ []) 0 0 0 D true ≡ lives.Refused (refusal n 0)
 
 abbrev pub AllHold : List Figure → Type 0
 AllHold [] = Prim.Unit {0}
@@ -76,8 +100,22 @@ AllHold (f ∷ fs) = Holds f × AllHold fs
 abbrev pub twoEntries : List ℤ
 twoEntries = pos 100 ∷ negsuc 39 ∷ pos 0 ∷ pos 0 ∷ pos 0 ∷ pos 0 ∷ pos 0 ∷ pos 0 ∷ []
 
--- of points; the divisors of degree 5 are tried on a unit with a block of 4, 4, 4, at a point of the one cell
--- that is inside
+-- of live calls: −40 and 5, 0 and 5; then degree 5 and degree 3, each at its largest divisor, where 12
+-- applies, and at one more, where 15 comes before it; and degree 5 where 11 comes before both
+abbrev pub liveFigures : List Figure
+liveFigures =
+    live twoEntries 2 1 1 1 0xc044_0000_0000_0000 0x4014_0000_0000_0000
+    ∷ live twoEntries 1 2 1 1 0 0x4014_0000_0000_0000
+    ∷ liveDivisor (unitWith 5 1 1 1 1 1 1) 64
+    ∷ liveRefused (unitWith 5 1 1 1 1 1 1) 3751 64 12
+    ∷ liveRefused (unitWith 5 1 1 1 1 1 1) 3751 65 15
+    ∷ liveRefused (unitWith 5 1 1 1 1 1 1) 3751 298 11
+    ∷ liveRefused (unitWith 2 2 1 1 1 1 1) 700 2840 12
+    ∷ liveRefused (unitWith 2 2 1 1 1 1 1) 700 2841 15
+    ∷ []
+
+-- of points, then of live calls; the divisors of degree 5 are tried on a unit with a block of 4, 4, 4, at a
+-- point of the one cell that is inside
 abbrev pub pointFigures : List Figure
 pointFigures =
     divisor (unitWith 2 2 2 2 4 4 4) 891 891 891 297 Passed
@@ -86,9 +124,9 @@ pointFigures =
     ∷ point twoEntries 3 2 2 2 (pos 60) 10 2
     ∷ point twoEntries 2 1 1 1 (negsuc 39) 5 1
     ∷ refused twoEntries 0 1 1 1 12
-    ∷ []
+    ∷ liveFigures
 
--- of nets, then of points
+-- of nets, then of points and live calls
 abbrev pub figures : List Figure
 figures =
     number [] 1 1 1 1

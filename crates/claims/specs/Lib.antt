@@ -3,3 +3,4 @@ pub mod Points
 pub mod Refusals
 pub mod Figures
 pub mod Demands
+pub mod Live

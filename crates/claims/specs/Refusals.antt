@@ -14,13 +14,15 @@ use Rattle.field.specs.Load.{loadAnswer}
 use Rattle.placing.specs.Place.{placeAnswer}
 use Rattle.blending.specs.Blend.{blendAnswer}
 use Rattle.point.specs.Answer.{pointAnswer}
+use Rattle.live.specs.Answer.{liveAnswer}
+use Rattle.live.specs.declared.LiveAnswer.the-variants as lives
 use Rattle.placing.specs.declared.PlacingAnswer.the-variants as placings
 use Rattle.point.specs.declared.PointAnswer.the-variants as points
 use Rattle.unit.specs.declared.UnitAnswer.the-variants as units
 
--- Section 5.3: the numbers of refusals, 1 to 14 and 21 to 23
+-- Section 5.3: the numbers of refusals, 1 to 15 and 21 to 23
 abbrev pub listed : ℕ → Bool
-listed n = leb 1 n && leb n 14 || leb 21 n && leb n 23
+listed n = leb 1 n && leb n 15 || leb 21 n && leb n 23
 
 -- Section 14.1: a call, on whatever it was handed, answered the refusal r
 pub data Met (r : Refusal) : Type 0 where
@@ -35,3 +37,5 @@ pub data Met (r : Refusal) : Type 0 where
       → blendAnswer u net corrections uncertainties x y z D ≡ placings.Refused r → Met r
   by-point : (u : Unit) (net : List ℕ) (corrections : List ℤ) (uncertainties : List ℕ) (x y z D : ℕ)
       → pointAnswer u net corrections uncertainties x y z D ≡ points.Refused r → Met r
+  by-live : (u : Unit) (net : List ℕ) (corrections : List ℤ) (uncertainties : List ℕ) (x y z D : ℕ)
+      (flag : Bool) → liveAnswer u net corrections uncertainties x y z D flag ≡ lives.Refused r → Met r

@@ -10,7 +10,9 @@ use Rattle.unit.specs.declared.Unit.{Unit}
 use Rattle.unit.specs.declared.UnitAnswer.{UnitAnswer}
 use Rattle.point.specs.declared.Fraction.{Fraction}
 use Rattle.point.specs.declared.PointAnswer.{PointAnswer}
-use Rattle.flat.specs.Flat.{blockHalf, emptyFlat, flatBlock, flatNet, flatPoint, netHalf, unitOf}
+use Rattle.live.specs.declared.LiveAnswer.{LiveAnswer}
+use Rattle.flat.specs.Flat.{blockHalf, emptyFlat, flatBlock, flatLive, flatNet, flatPoint, netHalf}
+use Rattle.flat.specs.Flat.{unitOf}
 use Rattle.flat.specs.declared.FlatUnit.{FlatUnit}
 
 -- ---- records
@@ -53,3 +55,13 @@ pub point-number : (answer : PointAnswer)
 point-number (PointAnswer.Value value) nonzero = (λ _. (value, refl), λ _. refl)
 point-number (PointAnswer.Refused r) nonzero =
     (λ h. absurd (nonzero r refl h), λ (value, h). let z : _≡_ {A = ℕ} 0 1 = cc in absurd (omega arith))
+
+-- the number of a live call is 0 exactly where it has floats, if no refusal has number 0
+pub live-number : (answer : LiveAnswer)
+    → ((r : Refusal) → answer ≡ LiveAnswer.Refused r → r .number ≡ 0 → ⊥)
+    → (flatLive answer .number ≡ 0) ↔ ((r : Refusal) → answer ≡ LiveAnswer.Refused r → ⊥)
+live-number (LiveAnswer.Both f) nonzero =
+    (λ _ r h. let z : _≡_ {A = ℕ} 0 1 = cc in absurd (omega arith), λ _. refl)
+live-number (LiveAnswer.Shift n) nonzero =
+    (λ _ r h. let z : _≡_ {A = ℕ} 0 1 = cc in absurd (omega arith), λ _. refl)
+live-number (LiveAnswer.Refused r) nonzero = (λ h. absurd (nonzero r refl h), λ h. absurd (h r refl))

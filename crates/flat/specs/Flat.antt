@@ -1,11 +1,16 @@
 -- The records and answers of the C interface, a flat record in the place of a unit, a flat struct in the
 -- place of an answer: Section 12.
+use mathlib.Core.Bool.{Bool, not}
+use Prim.Native.Nat.{ℕ}
 use lib.Dec.{eqb}
 use lib.IntN.{pos}
 use Rattle.unit.specs.declared.Unit.{Unit}
 use Rattle.unit.specs.declared.UnitAnswer.{UnitAnswer}
 use Rattle.point.specs.declared.PointAnswer.{PointAnswer}
+use Rattle.live.specs.Answer.{float}
+use Rattle.live.specs.declared.LiveAnswer.{LiveAnswer}
 use Rattle.flat.specs.declared.FlatUnit.{FlatUnit}
+use Rattle.flat.specs.declared.FlatLiveAnswer.{FlatLiveAnswer}
 use Rattle.flat.specs.declared.FlatPointAnswer.{FlatPointAnswer}
 use Rattle.flat.specs.declared.FlatUnitAnswer.{FlatUnitAnswer}
 
@@ -78,3 +83,16 @@ flatPoint (PointAnswer.Value f) = record {
 }
 flatPoint (PointAnswer.Refused r) =
     record { number = r .number; place = r .place; numerator = pos 0; uncertainty = 0; denominator = 0 }
+
+-- Section 12.2: of the flag of a live call, 0 switches the uncertainty off, and every other byte leaves it on
+abbrev pub switchedOn : ℕ → Bool
+switchedOn flag = not (eqb flag 0)
+
+-- Section 12.2: the answer of a live call; a float that it does not have is +0
+abbrev pub flatLive : LiveAnswer → FlatLiveAnswer
+flatLive (LiveAnswer.Both f) =
+    record { number = 0; place = 0; numerator = f .numerator; uncertainty = f .uncertainty }
+flatLive (LiveAnswer.Shift n) =
+    record { number = 0; place = 0; numerator = n; uncertainty = float (pos 0) }
+flatLive (LiveAnswer.Refused r) =
+    record { number = r .number; place = r .place; numerator = float (pos 0); uncertainty = float (pos 0) }

@@ -1,7 +1,8 @@
 // The records and answers of the C interface: flat structs in the place of a unit and of enums. Any bytes
 // may stand in a record. docs/SPECIFICATION.md, Section 12.
 ghost use mathlib.Core.Path.{_≡_};
-ghost use Rattle.flat.specs.Flat.{unitOf, flatNet, flatBlock, flatPoint};
+ghost use Rattle.flat.specs.Flat.{unitOf, flatNet, flatBlock, flatPoint, flatLive, switchedOn};
+use live::LiveAnswer;
 use point::PointAnswer;
 use unit::Unit;
 use unit::UnitAnswer;
@@ -37,6 +38,16 @@ pub struct FlatPointAnswer {
     pub numerator: i64,
     pub uncertainty: u64,
     pub denominator: u64,
+}
+
+// What a live call answers: 0, 0, N and U, U being +0 where it is switched off; or the number and the place
+// of a refusal and +0 for both.
+#[repr(C)]
+pub struct FlatLiveAnswer {
+    pub number: u32,
+    pub place: usize,
+    pub numerator: f64,
+    pub uncertainty: f64,
 }
 
 // The unit that a record stands for.
@@ -130,6 +141,39 @@ pub fn flat_point(answer: PointAnswer) -> FlatPointAnswer
             numerator: 0,
             uncertainty: 0,
             denominator: 0,
+        },
+    }
+}
+
+// Whether the byte of a call leaves the uncertainty on: all but 0 do.
+pub fn switched_on(flag: u8) -> bool
+    ensures { λ r. ⌜ r ≡ switchedOn flag ⌝ }
+{
+    flag != 0
+}
+
+// The answer of a live call.
+pub fn flat_live(answer: LiveAnswer) -> FlatLiveAnswer
+    ensures { λ r. ⌜ r ≡ flatLive answer ⌝ }
+{
+    match answer {
+        LiveAnswer::Both(floats) => FlatLiveAnswer {
+            number: 0,
+            place: 0,
+            numerator: floats.numerator,
+            uncertainty: floats.uncertainty,
+        },
+        LiveAnswer::Shift(numerator) => FlatLiveAnswer {
+            number: 0,
+            place: 0,
+            numerator: numerator,
+            uncertainty: 0.0,
+        },
+        LiveAnswer::Refused(refusal) => FlatLiveAnswer {
+            number: refusal.number,
+            place: refusal.place,
+            numerator: 0.0,
+            uncertainty: 0.0,
         },
     }
 }

@@ -1,21 +1,22 @@
 -- A unit and a point that passed their checks.
-use mathlib.Core.Bool.{true}
+use mathlib.Core.Bool.{_||_, false, true}
 use mathlib.Core.Path.{_≡_, refl}
 use Prim.Native.Nat.{_≤_, ℕ}
 use native.Mathlib.Nat.{pos-of-ne-zero}
 use native.Mathlib.Omega.{arith}
 use borrow.Author.Tests.{eqb-false, ltb-false, not-false}
+use lib.Dec.{eqb, ltb}
 use Rattle.spline.specs.Box.{places, width}
 use Rattle.spline.specs.Multiplicities.{Multiplicities, degree}
-use Rattle.unit.proofs.Checks.{if-passed, or-false, room-passed, then-passed}
-use Rattle.unit.specs.Checks.{passedOr}
+use Rattle.unit.proofs.Checks.{if-passed, if-stopped, or-false, room-passed, then-passed}
+use Rattle.unit.specs.Checks.{passedOr, refuseIf}
 use Rattle.unit.specs.Unit.{hasBlock, hasNet, netOf}
 use Rattle.unit.specs.declared.Checked.{Checked}
 use Rattle.unit.specs.declared.Checked.the-variants.{Passed, Stopped}
 use Rattle.unit.specs.declared.Refusal.{Refusal}
 use Rattle.unit.specs.declared.Unit.{Unit}
-use Rattle.placing.specs.Place.{divisorChecks, insideCheck, lentChecks, limit, placeAnswer}
-use Rattle.placing.specs.Place.{pointChecks, scale, unitChecks}
+use Rattle.placing.specs.Place.{divisorChecks, insideCheck, lentChecks, limit, liveCheck, liveLimit}
+use Rattle.placing.specs.Place.{placeAnswer, pointChecks, scale, unitChecks}
 use Rattle.placing.specs.Placing.{cells, inside, placing, sizes}
 use Rattle.placing.specs.declared.Placing.{Placing}
 use Rattle.placing.specs.declared.PlacingAnswer.the-variants as answers
@@ -53,6 +54,25 @@ module _ (u : Unit) (netLength correctionsLength uncertaintiesLength : ℕ) wher
         uncertainties-long = c .1;
       }
 
+pub record InRange (D : ℕ) : Type 0 where
+  pub some : 1 ≤ D
+  pub few : D ≤ 4096
+  pub is : (eqb D 0 || ltb 4096 D) ≡ false
+
+-- a divisor that passes 10 is in its range
+pub in-range : (D : ℕ) → refuseIf 10 (eqb D 0 || ltb 4096 D) Passed ≡ Passed → InRange D
+in-range D h =
+    let a = if-passed 10 _ _ h in
+    let d = or-false _ _ (a .0) in
+    record { some = pos-of-ne-zero (eqb-false _ _ (d .0)); few = ltb-false _ _ (d .1); is = a .0 }
+
+-- one that does not is refused whatever the net
+pub out-of-range : (v : Multiplicities) (D : ℕ) {r : Refusal}
+    → refuseIf 10 (eqb D 0 || ltb 4096 D) Passed ≡ Stopped r → divisorChecks v D ≡ Stopped r
+unfolding divisorChecks
+out-of-range v D {r} h =
+    if-stopped 10 (eqb D 0 || ltb 4096 D) (refuseIf 11 (ltb limit (scale (degree v) D)) Passed) r h
+
 pub record DivisorAccepted (v : Multiplicities) (D : ℕ) : Type 0 where
   pub some : 1 ≤ D
   pub few : D ≤ 4096
@@ -62,14 +82,16 @@ pub record DivisorAccepted (v : Multiplicities) (D : ℕ) : Type 0 where
 pub divisor-accepted : (v : Multiplicities) (D : ℕ) → divisorChecks v D ≡ Passed → DivisorAccepted v D
 unfolding divisorChecks
 divisor-accepted v D h =
-    let a = if-passed 10 _ _ h in
+    let a = if-passed 10 (eqb D 0 || ltb 4096 D) _ h in
     let b = if-passed 11 _ _ (a .1) in
-    let d = or-false _ _ (a .0) in
-    record {
-      some = pos-of-ne-zero (eqb-false _ _ (d .0));
-      few = ltb-false _ _ (d .1);
-      scaled = ltb-false _ _ (b .0);
-    }
+    let p : refuseIf 10 (eqb D 0 || ltb 4096 D) Passed ≡ Passed = rw (a .0) refl in
+    let r = in-range D p in
+    record { some = r .some; few = r .few; scaled = ltb-false _ _ (b .0) }
+
+-- one that passes 15 is within the limit of a live call
+pub live-accepted : (v : Multiplicities) (D : ℕ) → liveCheck v D ≡ Passed → scale (degree v) D ≤ liveLimit
+unfolding liveCheck
+live-accepted v D h = ltb-false _ _ (if-passed 15 _ _ h .0)
 
 pub record PointAccepted (u : Unit) (x y z D : ℕ) : Type 0 where
   pub divisor : DivisorAccepted (netOf u) D

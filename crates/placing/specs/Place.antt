@@ -16,11 +16,11 @@ use Rattle.placing.specs.Placing.{cells, inside, placing, sizes}
 use Rattle.placing.specs.declared.PlacingAnswer.{PlacingAnswer}
 use Rattle.placing.specs.declared.PlacingAnswer.the-variants.{Placed, Refused}
 
--- Section 5.3: m!×D^m, which 11 is about
+-- Section 5.3: m!×D^m, which 11 and 15 are about
 abbrev pub scale : ℕ → ℕ → ℕ
 scale m D = factorial m * D ^ m
 
--- Section 5.3: its largest value, 2^48
+-- Section 5.3: its largest value in an exact call, 2^48
 abbrev pub limit : ℕ
 limit = 281474976710656
 
@@ -40,6 +40,14 @@ lentChecks u netLength correctionsLength uncertaintiesLength =
 unfoldable pub divisorChecks : Multiplicities → ℕ → Checked
 divisorChecks v D =
     refuseIf 10 (eqb D 0 || ltb 4096 D) (refuseIf 11 (ltb limit (scale (degree v) D)) Passed)
+
+-- Section 5.3: the largest m!×D^m of a live call, 2^37
+abbrev pub liveLimit : ℕ
+liveLimit = 137438953472
+
+-- Section 5.3: 15 for a divisor too large for a live call
+unfoldable pub liveCheck : Multiplicities → ℕ → Checked
+liveCheck v D = refuseIf 15 (ltb liveLimit (scale (degree v) D)) Passed
 
 -- Section 5.3: 12 for a cell that is not inside
 unfoldable pub insideCheck : Multiplicities → (Axis → ℕ) → (Axis → ℕ) → Checked

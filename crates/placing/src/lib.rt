@@ -3,20 +3,16 @@
 ghost use mathlib.Core.Path.{_≡_};
 ghost use mathlib.Core.Bool.{true};
 ghost use Prim.Native.Nat.{_+_, _≤_};
-ghost use lib.Dec.{leb};
-ghost use Rattle.unit.specs.Unit.{netOf, hasNet, hasBlock};
+ghost use Rattle.unit.specs.Unit.{netOf, hasBlock};
 ghost use Rattle.placing.specs.Placing.{insideOn, located, onAxes, placingOn, sizes};
-ghost use Rattle.placing.specs.Place.{divisorChecks, insideCheck, lentChecks, limit, placeAnswer};
-ghost use Rattle.placing.specs.Place.{scale, unitChecks};
+ghost use Rattle.placing.specs.Place.{insideCheck, lentChecks, placeAnswer, unitChecks};
 use shape::Counts;
 use unit::Checked;
 use unit::Refusal;
 use unit::Unit;
 
+pub mod divisor;
 mod ranking;
-
-// The largest m!×D^m: 2^48.
-const SCALE: u64 = 281474976710656;
 
 // k on the three axes, the axes in the order p, r, s, and the weights, whose sum is D.
 pub struct Placing {
@@ -82,25 +78,6 @@ fn placing_of(x: Located, y: Located, z: Located, divisor: u32) -> Placing
     }
 }
 
-// Whether m!×D^m is at most 2^48. The product of the first factors is no larger than the whole one, so
-// the first that is above the limit decides, and none on the way overflows.
-fn scale_allowed(m: usize, divisor: u32) -> bool
-    requires { ⌜ (m ≤ 9) × (1 ≤ divisor) × (divisor ≤ 4096) ⌝ }
-    ensures { λ r. ⌜ r ≡ leb (scale m divisor) limit ⌝ }
-{
-    let d = divisor as u64;
-    let mut product: u64 = 1;
-    let mut i: u64 = 0;
-    while i < m as u64 {
-        i += 1;
-        product = product * (i * d);
-        if SCALE < product {
-            return false;
-        }
-    }
-    true
-}
-
 // Whether a cell is inside on one axis, whose multiplicity is v.
 fn inside_on(v: u8, v4: u8, size: u16, k: u32) -> bool
     requires { ⌜ 1 ≤ size ⌝ }
@@ -157,23 +134,6 @@ pub fn check_lent(unit: Unit, net: usize, corrections: usize, uncertainties: usi
     unit::check_block_room(n, corrections, uncertainties)
 }
 
-// Checks 10 and 11.
-fn check_divisor(unit: Unit, divisor: u32) -> Checked
-    requires { ⌜ hasNet unit ≡ true ⌝ }
-    ensures { λ r. ⌜ r ≡ divisorChecks (netOf unit) divisor ⌝ }
-{
-    if divisor == 0 {
-        return Checked::stop(10, 0);
-    }
-    if Unit::DIVISOR < divisor {
-        return Checked::stop(10, 0);
-    }
-    if !scale_allowed(shape::degree_of(Counts::of_unit(unit)), divisor) {
-        return Checked::stop(11, 0);
-    }
-    Checked::Passed
-}
-
 // The placing of the point X, Y, Z over a divisor, or the first refusal that applies of 21, 22, 10, 11, 12.
 pub fn place(unit: Unit, x: u32, y: u32, z: u32, divisor: u32) -> PlacingAnswer
     ensures { λ r. ⌜ r ≡ placeAnswer unit x y z divisor ⌝ }
@@ -181,7 +141,7 @@ pub fn place(unit: Unit, x: u32, y: u32, z: u32, divisor: u32) -> PlacingAnswer
     if let Checked::Stopped(refusal) = check_unit(unit) {
         return PlacingAnswer::Refused(refusal);
     }
-    if let Checked::Stopped(refusal) = check_divisor(unit, divisor) {
+    if let Checked::Stopped(refusal) = divisor::check_divisor(unit, divisor) {
         return PlacingAnswer::Refused(refusal);
     }
     let a = locate(x, divisor, unit.n1);

@@ -66,10 +66,10 @@ module _ (u : Unit) (net : List ℕ) (corrections : List ℤ) (uncertainties : L
   abbrev q : Placing
   q = placing u x y z D
 
-  abbrev checks : Checked
+  abbrev pub checks : Checked
   checks = blendChecks u net corrections uncertainties x y z D
 
-  abbrev fraction : Fraction
+  abbrev pub fraction : Fraction
   fraction = record {
     numerator = shiftNumerator (netOf u) (numberAt net) (correctionAt (sizes u) corrections) q;
     uncertainty = uncertaintyNumerator (netOf u) (numberAt net) (uncertaintyAt (sizes u) uncertainties) q;
@@ -77,7 +77,8 @@ module _ (u : Unit) (net : List ℕ) (corrections : List ℤ) (uncertainties : L
   }
 
   -- the checks are those of a blending
-  by-checks : pointAnswer u net corrections uncertainties x y z D ≡ passedOr checks (Value fraction) Refused
+  pub by-checks : pointAnswer u net corrections uncertainties x y z D
+      ≡ passedOr checks (Value fraction) Refused
   unfolding pointAnswer valueAnswer blendChecks
   by-checks =
       chained (lentChecks u (length net) (length corrections) (length uncertainties)) (pointChecks u x y z D)

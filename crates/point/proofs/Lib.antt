@@ -1,3 +1,4 @@
 pub mod Weights
 pub mod Parts
 pub mod Answers
+pub mod Blended

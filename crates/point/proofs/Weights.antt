@@ -1,15 +1,24 @@
 -- The weights of the local places are within 2^48, and so are the steps to them; they add up to D^m.
-use mathlib.Core.Path.{_∙_, _≡_, refl}
+use mathlib.Core.Bool.{true}
+use mathlib.Core.List.{List, []}
+use mathlib.Core.Path.{_∙_, _≡_, ap, refl}
 use Prim.Native.Nat.{_*_, _+_, _-_, _^_, _≤_, suc, ℕ}
 use native.Mathlib.Nat.{le-refl, le-trans, mul-le-mul, mul-le-mul-left, mul-le-mul-right, one-le-pow}
 use native.Mathlib.Nat.{pow-le-pow-left}
 use native.Mathlib.Omega.{arith}
+use borrow.Author.Tests.{leb-true}
+use lib.Dec.{leb}
+use lib.ListN.{getD}
 use lib.Pow.{pow-add}
 use Rattle.sums.proofs.Coefficient.{binomial-factorial, factorial-pos, multinomial-binomial}
+use Rattle.sums.proofs.Fill.{filled-at, tabulate-at}
 use Rattle.sums.proofs.Multinomial.{bernstein-sum}
+use Rattle.sums.proofs.Search.{all-at}
 use Rattle.sums.proofs.Simplex.{sum-tetrahedron, tetrahedron, triangle}
 use Rattle.sums.proofs.Sum.{sum-cong}
 use Rattle.sums.specs.Coefficient.{binomial, factorial}
+use Rattle.sums.specs.Fill.{tabulate}
+use Rattle.sums.specs.Search.{allTo}
 use Rattle.sums.specs.Simplex.{bernstein, sumSimplex}
 use Rattle.sums.specs.Sum.{sumTo}
 use Rattle.placing.proofs.Scale.{scale-le}
@@ -19,12 +28,34 @@ use Rattle.placing.specs.declared.Placing.{Placing}
 use Rattle.blending.proofs.Numbers.{count-is, local-is}
 use Rattle.blending.specs.LocalPlaces.{localPlaces}
 use Rattle.blending.specs.declared.local.LocalPlace.{LocalPlace}
-use Rattle.point.specs.Bernstein.{termWeight}
-use Rattle.point.specs.Inner.Weights.{Powers, Scaled, Tables, WithinDegree, factor, weightAt}
+use Rattle.point.specs.Bernstein.{binomialTable, termWeight}
+use Rattle.point.specs.Inner.Weights.{Binomials, Powers, Scaled, Tables, WithinDegree, factor}
+use Rattle.point.specs.Inner.Weights.{weightAt}
 
 -- powers as far as the n-th are powers as far as any k-th before it
 fewer : (n k l : ℕ) (x : ℕ → ℕ) → k ≤ n → Powers n l x → Powers k l x
 fewer n k l x h p i j = p i (omega arith)
+
+-- ---- binomials
+
+few : allTo 10 (λ n. allTo (suc n) (λ k. leb (binomial n k) 126)) ≡ true
+unfolding allTo binomial factorial
+few = refl
+
+-- the table has C(n, k), which is at most 126, at place k of row n
+pub table-held : Binomials binomialTable
+unfolding binomialTable
+table-held =
+    let at : (n k : ℕ) → n ≤ 9 → k ≤ n → getD (getD binomialTable n []) k 0 ≡ binomial n k
+    = λ n k h l.
+    ap (λ (row : List ℕ). getD row k 0) (tabulate-at _ 10 n [] (omega arith))
+    ∙ filled-at (binomial n) (suc n) (tabulate (λ i. 0) 10) k 0 (omega arith) in
+    record {
+      is = at;
+      small = λ n k h l.
+          rw (at n k h l)
+          (leb-true _ _ (all-at (suc n) _ (all-at 10 _ few n (omega arith)) k (omega arith)));
+    }
 
 -- ---- the steps to a weight: w × n! × D^n falls from one factor to the next
 

@@ -6,7 +6,7 @@ ghost use lib.IntN.{natAbs};
 ghost use Rattle.placing.specs.Inner.Ranking.{weightSum};
 ghost use Rattle.placing.specs.Place.{scale, limit};
 ghost use Rattle.blending.specs.Blend.{numberAt, signedAt};
-ghost use Rattle.point.specs.Bernstein.{termWeight};
+ghost use Rattle.point.specs.Bernstein.{binomialTable, termWeight};
 ghost use Rattle.point.specs.Inner.Weights.{Binomials, Scaled, Tables, WithinDegree, factor};
 ghost use Rattle.point.specs.Inner.Parts.{BlendedSizes, addParts, partsTo, weighed};
 use blending::local;
@@ -33,8 +33,8 @@ const BINOMIALS: [[u8; 10]; 10] = [
 ];
 
 // The binomials, laid out once for all the weights of a point.
-fn binomials() -> [[u8; 10]; 10]
-    ensures { λ r. ⌜ Binomials r ⌝ }
+pub fn binomials() -> [[u8; 10]; 10]
+    ensures { λ r. ⌜ r ≡ binomialTable ⌝ }
 {
     BINOMIALS
 }

@@ -7,7 +7,7 @@ use shape::Counts;
 use unit::Refusal;
 use unit::Unit;
 
-mod bernstein;
+pub mod bernstein;
 
 // The exact fraction of an answered point: N and U over m!×D^m, unreduced.
 pub struct Fraction {

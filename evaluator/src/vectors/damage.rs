@@ -1,12 +1,11 @@
 //! Points over lent nets that are not the defined one: 23, and answers from the lent numbers.
 
 use super::scene::Scene;
-use super::{Shelf, shape};
+use super::{Shelf, shape, window};
 use crate::field::Block;
 use crate::net::Multiplicities;
 use crate::point;
 use crate::random::Random;
-use crate::unit::Sizes;
 
 const DIVISOR: u32 = 4;
 /// On far faces, where three remainders and the divisor are enough for each order and each tie.
@@ -38,10 +37,22 @@ pub fn scenes(shelf: &Shelf) -> Vec<Scene> {
     scenes
 }
 
+/// Of each kind one or a few, at some points.
+pub fn live_scenes(shelf: &Shelf) -> Vec<Scene> {
+    let mut scenes = vec![wrapped(), other_net(), corner(quadratic(), 0)];
+    scenes.extend(compensated_shapes().into_iter().map(|v| {
+        let mut scene = inner_exchanged(v, shelf);
+        ask_some(&mut scene);
+        assert_answered(&scene, shelf);
+        scene
+    }));
+    scenes.push(compensated_on_far_face(0, shelf));
+    scenes
+}
+
 /// The net's window is the whole block.
 fn tight(v: Multiplicities) -> Scene {
-    let sizes = Sizes::new(v.extents()).expect("at most 10 on an axis");
-    Scene::new(v, Block::random(sizes, &mut Random::new(3)))
+    Scene::new(v, Block::random(window(v), &mut Random::new(3)))
 }
 
 /// Every point of the cell whose window is the block, at divisor 4: remainders of each order and with each tie.
@@ -129,11 +140,15 @@ fn corner(v: Multiplicities, index: usize) -> Scene {
 
 /// Two shares at one local place are changed against each other: no defined net, and no 23.
 fn compensated(v: Multiplicities, shelf: &Shelf) -> Scene {
-    // A place with a residue 0 would be a local place of two cells.
-    let mut scene = exchanged(v, |place| place.iter().all(|c| c % v.degree() != 0), shelf);
+    let mut scene = inner_exchanged(v, shelf);
     ask_cell(&mut scene);
     assert_answered(&scene, shelf);
     scene
+}
+
+/// At places inside the cells: one with a residue 0 would be a local place of two of them.
+fn inner_exchanged(v: Multiplicities, shelf: &Shelf) -> Scene {
+    exchanged(v, |place| place.iter().all(|c| c % v.degree() != 0), shelf)
 }
 
 /// The same with shares that count on the far face of an axis: what they lose and gain at one of the two local places

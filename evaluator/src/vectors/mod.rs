@@ -4,6 +4,7 @@ mod builds;
 mod damage;
 mod faces;
 mod inspections;
+mod live;
 mod loads;
 mod points;
 mod refusals;
@@ -12,6 +13,8 @@ mod whole;
 
 use crate::formats;
 use crate::net::{Multiplicities, Net, nets};
+use crate::unit::Sizes;
+use scene::Scene;
 use std::collections::{BTreeSet, HashMap};
 use std::fs;
 use std::path::Path;
@@ -37,6 +40,11 @@ fn shape(v: [usize; 4]) -> Multiplicities {
     Multiplicities::new(v).expect("multiplicities within the limits")
 }
 
+/// The sizes of a block that is just a window.
+fn window(v: Multiplicities) -> Sizes {
+    Sizes::new(v.extents()).expect("at most 10 on an axis")
+}
+
 /// The digests of all nets, and the nets that are needed again.
 fn all_nets(wanted: &BTreeSet<Multiplicities>) -> (String, Shelf) {
     let mut digests = formats::DIGEST_HEADER.to_string();
@@ -54,10 +62,10 @@ fn all_nets(wanted: &BTreeSet<Multiplicities>) -> (String, Shelf) {
 
 fn make() -> Vec<Vectors> {
     let of_points = [points::shapes(), faces::shapes(), refusals::shapes(), damage::shapes()].concat();
-    let wanted = [of_points, inspections::shapes(), whole::shapes()].into_iter().flatten().collect();
-    let (digests, shelf) = all_nets(&wanted);
+    let wanted = [of_points, live::shapes(), inspections::shapes(), whole::shapes()].concat();
+    let (digests, shelf) = all_nets(&wanted.into_iter().collect());
     let scenes = [points::scenes(), faces::scenes(), refusals::scenes(&shelf), damage::scenes(&shelf)];
-    let points = scenes.iter().flatten().map(|scene| scene.text(&shelf));
+    let scenes: Vec<Scene> = scenes.into_iter().flatten().collect();
     vec![
         Vectors { name: "nets.txt", text: digests },
         Vectors { name: "whole-nets.txt", text: whole::nets(&shelf) },
@@ -65,7 +73,8 @@ fn make() -> Vec<Vectors> {
         Vectors { name: "builds.txt", text: builds::text() },
         Vectors { name: "inspections.txt", text: inspections::text(&shelf) },
         Vectors { name: "loads.txt", text: loads::text() },
-        Vectors { name: "points.txt", text: scene::HEADER.to_string() + &points.collect::<String>() },
+        Vectors { name: "points.txt", text: points::text(&scenes, &shelf) },
+        Vectors { name: "live.txt", text: live::text(&live::scenes(&shelf), &shelf) },
     ]
 }
 
@@ -95,11 +104,16 @@ mod tests {
     #[test]
     fn each_refusal_has_a_case() {
         let shelf = Shelf { nets: refusals::shapes().into_iter().map(|v| (v, Net::of(v))).collect() };
-        let points = refusals::scenes(&shelf).iter().map(|scene| scene.text(&shelf)).collect();
-        let texts = [builds::text(), loads::text(), points];
-        let numbers = [vec![1, 2, 4], vec![5, 6, 7, 8, 9], vec![21, 22, 4, 9, 10, 11, 12, 13, 23]];
-        for (text, numbers) in texts.iter().zip(numbers) {
-            assert!(numbers.into_iter().all(|number| has_refusal(text, number)));
+        let points = points::text(&refusals::scenes(&shelf), &shelf);
+        let live = live::text(&refusals::live_scenes(&shelf), &shelf);
+        let cases: [(String, &[u8]); 4] = [
+            (builds::text(), &[1, 2, 4]),
+            (loads::text(), &[5, 6, 7, 8, 9]),
+            (points, &[21, 22, 4, 9, 10, 11, 12, 13, 23]),
+            (live, &[21, 22, 4, 9, 10, 11, 15, 12, 13, 23]),
+        ];
+        for (text, numbers) in cases {
+            assert!(numbers.iter().all(|&number| has_refusal(&text, number)));
         }
     }
 

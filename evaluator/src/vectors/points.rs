@@ -1,24 +1,29 @@
 //! Points over defined nets of every degree: the figures worked by hand, any points, and the largest numbers.
 
-use super::scene::{Scene, coordinates};
-use super::{faces, shape};
+use super::scene::{Case, Scene, coordinates, header};
+use super::{Shelf, faces, shape};
 use crate::field::{Block, NEVER_MEASURED};
 use crate::net::Multiplicities;
 use crate::point::largest_divisor;
 use crate::random::Random;
-use crate::unit::Sizes;
+use crate::unit::{Sizes, told};
+
+const FORMS: &str = "\
+# point HAS-NET V1 V2 V3 V4 HAS-BLOCK N1 N2 N3 NET C U X Y Z D answer N U DENOMINATOR
+# point HAS-NET V1 V2 V3 V4 HAS-BLOCK N1 N2 N3 NET C U X Y Z D refused NUMBER PLACE
+";
 
 const NETS_OF_A_DEGREE: usize = 6;
 
-/// Nets of each degree, from the first to the last.
+/// At most so many of these, from the first to the last.
+pub fn some_of(all: &[Multiplicities], most: usize) -> Vec<Multiplicities> {
+    let count = all.len().min(most);
+    (0..count).map(|i| all[i * (all.len() - 1) / (count - 1).max(1)]).collect()
+}
+
+/// Nets of each degree.
 fn spread() -> Vec<Multiplicities> {
-    let mut chosen = Vec::new();
-    for degree in 1..=9 {
-        let all = Multiplicities::of_degree(degree);
-        let count = all.len().min(NETS_OF_A_DEGREE);
-        chosen.extend((0..count).map(|i| all[i * (all.len() - 1) / (count - 1).max(1)]));
-    }
-    chosen
+    (1..=9).flat_map(|degree| some_of(&Multiplicities::of_degree(degree), NETS_OF_A_DEGREE)).collect()
 }
 
 /// Nets at whose largest divisors the numerators are greatest, and the longest and the fullest box.
@@ -28,6 +33,13 @@ fn large() -> Vec<Multiplicities> {
 
 pub fn shapes() -> Vec<Multiplicities> {
     [spread(), large()].concat()
+}
+
+/// The file of these scenes.
+pub fn text(scenes: &[Scene], shelf: &Shelf) -> String {
+    let line = |_, case: &Case, exact| format!("point {case} {}\n", told(&exact));
+    let texts = scenes.iter().map(|scene| scene.text(shelf, line));
+    std::iter::once(header("Point calls", FORMS, "")).chain(texts).collect()
 }
 
 pub fn scenes() -> Vec<Scene> {
@@ -43,7 +55,7 @@ pub fn scenes() -> Vec<Scene> {
 }
 
 /// The points worked by hand: docs/SPECIFICATION.md, 14.6.
-fn figures() -> Vec<Scene> {
+pub fn figures() -> Vec<Scene> {
     let mut block = Block::constant(Sizes::new([2, 2, 2]).expect("within the limits"), 0, 5);
     (block.corrections[0], block.corrections[1]) = (100, -40);
     let mut measured = Scene::new(shape([1; 4]), block.clone());

@@ -1,19 +1,22 @@
 //! Each refusal of the point call alone and together with each other one, which shows the order of the checks; and on a
-//! far face, where it is alone or with what is found in the window.
+//! far face, where it is alone or with what is found in the window. The live call has fewer cases of a pair.
 
 use super::scene::{Case, Scene};
 use super::{Shelf, shape};
 use crate::field::{Block, NEVER_MEASURED};
+use crate::live;
 use crate::net::Multiplicities;
 use crate::point::{LARGEST_DIVISOR, largest_divisor};
 use crate::random::Random;
-use crate::unit::{Sizes, Unit};
+use crate::unit::{Refusal, Sizes, Unit};
+use std::fmt::Debug;
 
 const CHECKS: [u8; 9] = [21, 22, 4, 9, 10, 11, 12, 13, 23];
+const LIVE_CHECKS: [u8; 10] = [21, 22, 4, 9, 10, 11, 15, 12, 13, 23];
 const SIZES: [usize; 3] = [4, 5, 3];
 const DIVISOR: u32 = 10;
 
-/// Of a degree where 11 can apply without 10.
+/// Of a degree where 11 can apply without 10, and 15 without either.
 fn net() -> Multiplicities {
     shape([2, 2, 2, 1])
 }
@@ -22,14 +25,22 @@ pub fn shapes() -> Vec<Multiplicities> {
     vec![net()]
 }
 
+/// Whether the block has a gap, and whether the net is damaged.
+const KINDS: [(bool, bool); 4] = [(false, false), (true, false), (false, true), (true, true)];
+
 pub fn scenes(shelf: &Shelf) -> Vec<Scene> {
-    let kinds = [(false, false), (true, false), (false, true), (true, true)];
-    Vec::from(kinds.map(|(has_gap, is_damaged)| scene(has_gap, is_damaged, shelf)))
+    Vec::from(KINDS.map(|(has_gap, is_damaged)| scene(has_gap, is_damaged, shelf)))
 }
 
-/// The pairs of checks, each also with itself; the earlier one is first.
-fn pairs() -> impl Iterator<Item = [u8; 2]> {
-    (0..CHECKS.len()).flat_map(|i| (i..CHECKS.len()).map(move |j| [CHECKS[i], CHECKS[j]]))
+pub fn live_scenes(shelf: &Shelf) -> Vec<Scene> {
+    Vec::from(KINDS.map(|(has_gap, is_damaged)| live_scene(has_gap, is_damaged, shelf)))
+}
+
+/// The pairs of checks, each also with itself, that have 13 exactly where the block has a gap, and 23 exactly
+/// where the net is damaged; the earlier one is first.
+fn pairs(checks: &[u8], has_gap: bool, is_damaged: bool) -> Vec<[u8; 2]> {
+    let all = (0..checks.len()).flat_map(|i| checks[i..].iter().map(move |&later| [checks[i], later]));
+    all.filter(|p| p.contains(&13) == has_gap && p.contains(&23) == is_damaged).collect()
 }
 
 /// The point that a call asks, by its divisor.
@@ -46,8 +57,8 @@ fn far(divisor: u32) -> [u32; 3] {
     [x, y, (SIZES[2] as u32).saturating_mul(divisor)]
 }
 
-/// The pairs that have 13 exactly where the block has a gap, and 23 exactly where the net is damaged.
-fn scene(has_gap: bool, is_damaged: bool, shelf: &Shelf) -> Scene {
+/// A scene without cases.
+fn setting(has_gap: bool, is_damaged: bool) -> Scene {
     let sizes = Sizes::new(SIZES).expect("within the limits");
     let mut scene = Scene::new(net(), Block::random(sizes, &mut Random::new(2)));
     if has_gap {
@@ -56,16 +67,20 @@ fn scene(has_gap: bool, is_damaged: bool, shelf: &Shelf) -> Scene {
     if is_damaged {
         scene.changes.push((0, 1));
     }
+    scene
+}
+
+fn scene(has_gap: bool, is_damaged: bool, shelf: &Shelf) -> Scene {
+    let mut scene = setting(has_gap, is_damaged);
     let is_sound = !has_gap && !is_damaged;
     let lent_numbers = scene.lent_numbers(shelf);
-    let own: Vec<_> = pairs().filter(|p| p.contains(&13) == has_gap && p.contains(&23) == is_damaged).collect();
+    let own = pairs(&CHECKS, has_gap, is_damaged);
     let asked = own.iter().map(|pair| (*pair, inside as PointAt));
     let asked_far = own.iter().filter(|p| !is_sound || p[0] == p[1]).map(|pair| (*pair, far as PointAt));
     for (pair, point_at) in asked.chain(asked_far) {
         let cases = cases(&scene, pair, point_at);
         for case in &cases {
-            let refusal = scene.answer(case, &lent_numbers).expect_err("a fault is refused");
-            assert_eq!(refusal.number, pair[0], "the earlier of {pair:?}");
+            assert_refused(pair, scene.answer(case, &lent_numbers));
         }
         scene.cases.extend(cases);
     }
@@ -73,6 +88,28 @@ fn scene(has_gap: bool, is_damaged: bool, shelf: &Shelf) -> Scene {
         scene.ask(far(DIVISOR), DIVISOR);
     }
     scene
+}
+
+/// A check alone has all its cases, one with another the first of them.
+fn live_scene(has_gap: bool, is_damaged: bool, shelf: &Shelf) -> Scene {
+    let mut scene = setting(has_gap, is_damaged);
+    let lent_numbers = scene.lent_numbers(shelf);
+    for pair in pairs(&LIVE_CHECKS, has_gap, is_damaged) {
+        let mut cases = cases(&scene, pair, inside);
+        if pair[0] != pair[1] {
+            cases.truncate(1);
+        }
+        for case in &cases {
+            assert_refused(pair, live::answer(&scene.call(case), scene.answer(case, &lent_numbers), true));
+        }
+        scene.cases.extend(cases);
+    }
+    scene
+}
+
+fn assert_refused<T: Debug>(pair: [u8; 2], answer: Result<T, Refusal>) {
+    let refusal = answer.expect_err("a fault is refused");
+    assert_eq!(refusal.number, pair[0], "the earlier of {pair:?}");
 }
 
 /// The call that would be answered but for the scene's gap and damage, with the faults of the pair.
@@ -89,15 +126,18 @@ fn with_fault(case: Case, number: u8, point_at: PointAt) -> Vec<Case> {
     let Case { unit, lengths, .. } = case;
     let with_units = |units: Vec<Unit>| units.into_iter().map(|unit| Case { unit, ..case }).collect();
     let with_lengths = |all: Vec<[usize; 3]>| all.into_iter().map(|lengths| Case { lengths, ..case }).collect();
-    let largest = largest_divisor(net().degree());
+    let (largest, live_largest) = (largest_divisor(net().degree()), live::largest_divisor(net().degree()));
+    let meets_10 = case.divisor == 0 || case.divisor > LARGEST_DIVISOR;
     match number {
         21 => with_units(units_without_net(unit)),
         22 => with_units(units_without_block(unit)),
         4 => with_lengths(vec![[net().places() - 1, lengths[1], lengths[2]], [0, lengths[1], lengths[2]]]),
         9 => with_lengths(vec![[lengths[0], lengths[1] - 1, lengths[2]], [lengths[0], lengths[1], lengths[2] - 1]]),
         10 => with_divisors(case, &[0, LARGEST_DIVISOR + 1, u32::MAX], point_at),
-        // Where 10 applies too, the divisor stays.
-        11 if case.divisor > LARGEST_DIVISOR || case.divisor == 0 => vec![case],
+        // Where an earlier check of it applies too, the divisor stays.
+        11 if meets_10 => vec![case],
+        15 if meets_10 || case.divisor > largest => vec![case],
+        15 => with_divisors(case, &[live_largest + 1, largest], point_at),
         11 => with_divisors(case, &[largest + 1, LARGEST_DIVISOR], point_at),
         12 => outside(case),
         _ => vec![case],

@@ -5,22 +5,28 @@ use crate::field::Block;
 use crate::formats::{join, number_lines};
 use crate::lent;
 use crate::net::Multiplicities;
-use crate::point::{self, Call, Fraction};
+use crate::point::{self, Call, Exact};
 use crate::random::Random;
-use crate::unit::{Refusal, Unit};
+use crate::unit::Unit;
+use std::fmt;
 
-pub const HEADER: &str = "\
-# Point calls. Each line is a word and numbers.
+const LENT_WORDS: &str = "\
 # net V1 V2 V3 V4      from here on, the lent net is the defined one of these multiplicities
 # set INDEX NUMBER     but for this number at this index
 # block                from here on, the lent block is what the lines c and u say
 # c NUMBERS            corrections, in index order
 # u NUMBERS            uncertainties, in index order
-# point HAS-NET V1 V2 V3 V4 HAS-BLOCK N1 N2 N3 NET C U X Y Z D answer N U DENOMINATOR
-# point HAS-NET V1 V2 V3 V4 HAS-BLOCK N1 N2 N3 NET C U X Y Z D refused NUMBER PLACE
+";
+
+const CALL_WORDS: &str = "\
 #                      a call with this unit; NET, C, U are the slices' lengths: so many of the lent numbers are handed
 #                      in, and a net slice longer than the lent net holds 4294967295 past it
 ";
+
+/// The top of a file of such calls: the forms of their lines, and what is to be said of these alone.
+pub fn header(title: &str, forms: &str, own_words: &str) -> String {
+    format!("# {title}. Each line is a word and numbers.\n{LENT_WORDS}{forms}{CALL_WORDS}{own_words}")
+}
 
 /// The slice of this length that begins with the lent numbers; what no call may read is filled in past them.
 pub fn slice(numbers: &[u32], length: usize) -> Vec<u32> {
@@ -42,6 +48,13 @@ pub struct Case {
     pub lengths: [usize; 3],
     pub coordinates: [u32; 3],
     pub divisor: u32,
+}
+
+impl fmt::Display for Case {
+    fn fmt(&self, f: &mut fmt::Formatter) -> fmt::Result {
+        let Case { unit, lengths, coordinates, divisor } = self;
+        write!(f, "{unit} {} {} {divisor}", join(lengths), join(coordinates))
+    }
 }
 
 pub struct Scene {
@@ -104,7 +117,7 @@ impl Scene {
     }
 
     /// The answer from the lent numbers; where these are the unit's own net, the recurrence must say the same.
-    pub fn answer(&self, case: &Case, lent_numbers: &[u32]) -> Result<Fraction, Refusal> {
+    pub fn answer(&self, case: &Case, lent_numbers: &[u32]) -> Exact {
         let call = self.call(case);
         let answer = lent::answer(&call, &slice(lent_numbers, call.net_length));
         if self.changes.is_empty() && call.unit.net().is_none_or(|v| v == self.net) {
@@ -113,7 +126,8 @@ impl Scene {
         answer
     }
 
-    pub fn text(&self, shelf: &Shelf) -> String {
+    /// What is lent, then what is made of each case: its number, the case and its exact answer are handed on.
+    pub fn text(&self, shelf: &Shelf, lines: impl Fn(usize, &Case, Exact) -> String) -> String {
         let lent_numbers = self.lent_numbers(shelf);
         let mut text = format!("net {}\n", join(self.net.counts()));
         for (index, number) in &self.changes {
@@ -122,14 +136,8 @@ impl Scene {
         text.push_str("block\n");
         text.push_str(&number_lines("c", &self.block.corrections));
         text.push_str(&number_lines("u", &self.block.uncertainties));
-        for case in &self.cases {
-            let result = match self.answer(case, &lent_numbers) {
-                Ok(fraction) => fraction.to_string(),
-                Err(refusal) => refusal.to_string(),
-            };
-            let Case { unit, lengths, coordinates, divisor } = case;
-            let line = format!("point {unit} {} {} {divisor} {result}\n", join(lengths), join(coordinates));
-            text.push_str(&line);
+        for (number, case) in self.cases.iter().enumerate() {
+            text.push_str(&lines(number, case, self.answer(case, &lent_numbers)));
         }
         text
     }

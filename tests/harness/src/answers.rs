@@ -1,7 +1,8 @@
 //! The evaluator's units and answers as the records of the C interface.
 
-use crate::torskavel::{PointAnswer, Unit as Record, UnitAnswer};
+use crate::torskavel::{LivePointAnswer, PointAnswer, Unit as Record, UnitAnswer};
 use evaluator::field::Block;
+use evaluator::live::Floats;
 use evaluator::point::Fraction;
 use evaluator::unit::{Refusal, Unit};
 use std::fmt;
@@ -9,6 +10,7 @@ use std::fmt;
 pub type Changed = Result<Unit, Refusal>;
 pub type Loaded = Result<(Unit, Block), Refusal>;
 pub type Answered = Result<Fraction, Refusal>;
+pub type LiveAnswered = Result<Floats, Refusal>;
 
 /// A unit, and the bytes of its flags, of net and block, where they are not set: any but 1.
 #[derive(Clone, Copy)]
@@ -58,12 +60,46 @@ impl fmt::Display for Handed {
     }
 }
 
+/// Number and place of an answer.
+fn outcome<T>(answered: &Result<T, Refusal>) -> (u32, usize) {
+    answered.as_ref().err().map_or((0, 0), |refusal| (refusal.number.into(), refusal.place))
+}
+
 /// A refused call answers zeros.
 pub fn point_answer(answered: &Answered) -> PointAnswer {
-    let (number, place) = answered.err().map_or((0, 0), |refusal| (refusal.number.into(), refusal.place));
+    let (number, place) = outcome(answered);
     let zeros = Fraction { numerator: 0, uncertainty: 0, denominator: 0 };
     let Fraction { numerator, uncertainty, denominator } = answered.unwrap_or(zeros);
     PointAnswer { number, place, numerator, uncertainty, denominator }
+}
+
+/// A live answer with its floats as bits: so -0.0 is not +0.0, which a zero must be.
+#[derive(Clone, Copy, PartialEq, Eq, Debug)]
+pub struct LiveBits {
+    pub number: u32,
+    pub place: usize,
+    pub numerator: u64,
+    pub uncertainty: u64,
+}
+
+impl From<LivePointAnswer> for LiveBits {
+    fn from(answer: LivePointAnswer) -> LiveBits {
+        let LivePointAnswer { number, place, numerator, uncertainty } = answer;
+        LiveBits { number, place, numerator: numerator.to_bits(), uncertainty: uncertainty.to_bits() }
+    }
+}
+
+/// A refused call answers +0.0 twice, one without the uncertainty does so for it.
+impl From<&LiveAnswered> for LiveBits {
+    fn from(answered: &LiveAnswered) -> LiveBits {
+        let (number, place) = outcome(answered);
+        let (numerator, uncertainty) = match *answered {
+            Ok(Floats::Both { numerator, uncertainty }) => (numerator, uncertainty),
+            Ok(Floats::Shift(numerator)) => (numerator, 0),
+            Err(_) => (0, 0),
+        };
+        LiveBits { number, place, numerator, uncertainty }
+    }
 }
 
 /// The number of a call's answer.

@@ -3,8 +3,9 @@
 use crate::Outcome;
 use crate::answers::{Answered, Changed, Handed, Loaded, point_answer};
 use crate::guard::Lent;
-use crate::torskavel;
+use crate::torskavel::{self, PointAnswer};
 use evaluator::formats::join;
+use evaluator::point::Call;
 use evaluator::sha256::hex_digest;
 use std::fmt::{self, Debug};
 use std::sync::atomic::{AtomicBool, Ordering};
@@ -13,14 +14,14 @@ use std::sync::atomic::{AtomicBool, Ordering};
 pub static TRACE: AtomicBool = AtomicBool::new(false);
 
 /// Makes a case's call. A failure begins with the case.
-fn run(case: &impl fmt::Display, call: impl FnOnce() -> Outcome) -> Outcome {
+pub fn run(case: &impl fmt::Display, call: impl FnOnce() -> Outcome) -> Outcome {
     if TRACE.load(Ordering::Relaxed) {
         println!("{case}");
     }
     call().map_err(|failure| format!("{case}: {failure}"))
 }
 
-fn expect<T: PartialEq + Debug>(expected: T, answer: T) -> Outcome {
+pub fn expect<T: PartialEq + Debug>(expected: T, answer: T) -> Outcome {
     if answer == expected { Ok(()) } else { Err(format!("expected {expected:?}, answered {answer:?}")) }
 }
 
@@ -176,15 +177,42 @@ impl Point<'_> {
         run(self, || self.call(expected))
     }
 
+    /// What the evaluator is handed, the net apart.
+    pub fn evaluated(&self) -> Call<'_> {
+        let Point { unit, net, corrections, uncertainties, coordinates, divisor, .. } = *self;
+        Call { unit: unit.unit, net_length: net.len(), corrections, uncertainties, coordinates, divisor }
+    }
+
     fn call(&self, expected: &Answered) -> Outcome {
-        let net = Lent::of("net", self.net);
-        let corrections = Lent::of("corrections", self.corrections);
-        let uncertainties = Lent::of("uncertainties", self.uncertainties);
-        let (unit, c, u) = (self.unit.record(), corrections.slice(), uncertainties.slice());
-        let answer = torskavel::answer(unit, net.slice(), c, u, self.coordinates, self.divisor);
-        expect(point_answer(expected), answer)?;
-        net.kept()?;
-        corrections.kept()?;
-        uncertainties.kept()
+        let lent = LentPoint::of(self);
+        expect(point_answer(expected), lent.answer(self))?;
+        lent.kept()
+    }
+}
+
+/// The slices of a point call.
+pub struct LentPoint {
+    pub net: Lent<u32>,
+    pub corrections: Lent<i16>,
+    pub uncertainties: Lent<u16>,
+}
+
+impl LentPoint {
+    pub fn of(point: &Point) -> LentPoint {
+        let net = Lent::of("net", point.net);
+        let corrections = Lent::of("corrections", point.corrections);
+        LentPoint { net, corrections, uncertainties: Lent::of("uncertainties", point.uncertainties) }
+    }
+
+    /// The exact call.
+    pub fn answer(&self, point: &Point) -> PointAnswer {
+        let (net, c, u) = (self.net.slice(), self.corrections.slice(), self.uncertainties.slice());
+        torskavel::answer(point.unit.record(), net, c, u, point.coordinates, point.divisor)
+    }
+
+    pub fn kept(&self) -> Outcome {
+        self.net.kept()?;
+        self.corrections.kept()?;
+        self.uncertainties.kept()
     }
 }

@@ -4,6 +4,7 @@
 mod answers;
 mod calls;
 mod guard;
+mod live;
 mod random;
 mod report;
 mod shelf;
@@ -14,9 +15,9 @@ mod torskavel;
 
 use answers::Handed;
 use evaluator::unit::Unit;
-use random::points::{self, Spread};
+use random::points::{self, Asked, Spread};
 use random::{builds, inspections, loads};
-use report::{ANSWER, BUILD, INSPECT, LOAD, Report, Tally};
+use report::{ANSWER, BUILD, INSPECT, LIVE, LOAD, Report, Tally};
 use shelf::Shelf;
 use std::process::ExitCode;
 use std::sync::atomic::Ordering;
@@ -35,6 +36,8 @@ fn stored_vectors(report: &mut Report) -> Outcome<Shelf> {
     report.group(INSPECT, "vectors/inspections.txt", |tally| stored::inspections::run(&shelf, tally))?;
     report.group(LOAD, "vectors/loads.txt", stored::loads::run)?;
     report.group(ANSWER, "vectors/points.txt", |tally| stored::points::run(&shelf, tally))?;
+    report.group(LIVE, "vectors/live.txt", |tally| stored::live::run(&shelf, tally))?;
+    report.group(LIVE, "vectors/points.txt, asked live", |tally| stored::live::points(&shelf, tally))?;
     Ok(shelf)
 }
 
@@ -42,15 +45,27 @@ fn random_calls(shelf: &Shelf, report: &mut Report) -> Outcome {
     let mut group = |kind, title: &str, seed: u64, run: &mut dyn FnMut(u64, &mut Tally) -> Outcome| {
         report.group(kind, &format!("random {title}, seed {seed}"), |tally| run(seed, tally))
     };
-    let mut spread = Spread::default();
     group(BUILD, "builds", 1, &mut |seed, tally| builds::run(seed, 3000, shelf, tally))?;
     group(INSPECT, "inspections", 2, &mut |seed, tally| inspections::run(seed, 3000, shelf, tally))?;
     group(INSPECT, "inspections of all nets", 3, &mut |seed, tally| inspections::all_nets(seed, shelf, tally))?;
-    group(LOAD, "loads", 4, &mut |seed, tally| loads::run(seed, 15_000, tally))?;
-    group(ANSWER, "points", 5, &mut |seed, tally| points::any(seed, 30_000, shelf, &mut spread, tally))?;
-    group(ANSWER, "points over damaged nets", 6, &mut |seed, tally| points::damaged(seed, 6000, shelf, tally))?;
-    group(ANSWER, "points by recurrence", 7, &mut |seed, tally| points::by_recurrence(seed, 1500, shelf, tally))?;
-    group(ANSWER, "points at the same time", 8, &mut |seed, tally| threads::run(seed, shelf, tally))?;
+    group(LOAD, "loads", 4, &mut |seed, tally| loads::run(seed, 15_000, tally))
+}
+
+/// Random points of one call, from the seeds after `seed`.
+fn random_points(asked: Asked, seed: u64, shelf: &Shelf, report: &mut Report) -> Outcome {
+    let (kind, call) = match asked {
+        Asked::Exact => (ANSWER, "points"),
+        Asked::Live => (LIVE, "live points"),
+    };
+    let mut group = |title: &str, more: u64, run: &mut dyn FnMut(u64, &mut Tally) -> Outcome| {
+        let seed = seed + more;
+        report.group(kind, &format!("random {call}{title}, seed {seed}"), |tally| run(seed, tally))
+    };
+    let mut spread = Spread::default();
+    group("", 1, &mut |seed, tally| points::any(asked, seed, 30_000, shelf, &mut spread, tally))?;
+    group(" over damaged nets", 2, &mut |seed, tally| points::damaged(asked, seed, 6000, shelf, tally))?;
+    group(" by recurrence", 3, &mut |seed, tally| points::by_recurrence(asked, seed, 1500, shelf, tally))?;
+    group(" at the same time", 4, &mut |seed, tally| threads::run(asked, seed, shelf, tally))?;
     spread.finish()
 }
 
@@ -65,6 +80,8 @@ fn run() -> Outcome {
     empty_unit()?;
     let shelf = stored_vectors(&mut report)?;
     random_calls(&shelf, &mut report)?;
+    random_points(Asked::Exact, 4, &shelf, &mut report)?;
+    random_points(Asked::Live, 8, &shelf, &mut report)?;
     report.finish()
 }
 

@@ -42,6 +42,7 @@ pub const BUILD: Kind = Kind { name: "build", numbers: &[0, 1, 2, 4] };
 pub const INSPECT: Kind = Kind { name: "inspect", numbers: &[0, 3, 4, 14] };
 pub const LOAD: Kind = Kind { name: "load", numbers: &[0, 5, 6, 7, 8, 9] };
 pub const ANSWER: Kind = Kind { name: "answer", numbers: &[0, 21, 22, 4, 9, 10, 11, 12, 13, 23] };
+pub const LIVE: Kind = Kind { name: "live", numbers: &[0, 21, 22, 4, 9, 10, 11, 15, 12, 13, 23] };
 
 /// The tallies of all groups of cases, by call.
 #[derive(Default)]
@@ -61,7 +62,7 @@ impl Report {
 
     /// Prints the sums, and fails where a number of a call was never answered.
     pub fn finish(&self) -> Outcome {
-        for Kind { name, numbers } in [BUILD, INSPECT, LOAD, ANSWER] {
+        for Kind { name, numbers } in [BUILD, INSPECT, LOAD, ANSWER, LIVE] {
             let tally = self.0.get(name).ok_or(format!("{name} was never called"))?;
             println!("all of {name}: {tally}");
             if let Some(number) = numbers.iter().find(|number| !tally.0.contains_key(number)) {

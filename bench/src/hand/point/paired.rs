@@ -1,15 +1,19 @@
 //! The window listed once, with correction and uncertainty of an entry in one number, so that a share is
 //! multiplied once. The sum of shares stands apart; where it is m!, the two others stay within their bits.
 
-use super::bernstein::{Blended, value};
+use super::bernstein::Blended;
 use super::checks::{Call, checked};
 use super::place::Placing;
 use super::window::Window;
-use super::{Fraction, Refusal};
+use super::{Refusal, Sums};
 
-pub fn answer(call: &Call) -> Result<Fraction, Refusal> {
-    let (window, placing) = checked(call)?;
-    if window.shape.degree <= 8 { in_64_bits(&window, &placing) } else { in_128_bits(&window, &placing) }
+pub fn answer<S: Sums>(call: &Call, by: &S) -> Result<S::Answer, Refusal> {
+    let (window, placing) = checked::<S>(call)?;
+    if window.shape.degree <= 8 {
+        in_64_bits(&window, &placing, by)
+    } else {
+        in_128_bits(&window, &placing, by)
+    }
 }
 
 /// Where an entry's shares begin, and its pair with the correction above so many bits.
@@ -19,9 +23,9 @@ fn list(window: &Window, bits: u32) -> Vec<(usize, i64)> {
 }
 
 /// The sum of uncertainties is at most 40320×65535, below 2^32, that of corrections at most half of it.
-fn in_64_bits(window: &Window, placing: &Placing) -> Result<Fraction, Refusal> {
+fn in_64_bits<S: Sums>(window: &Window, placing: &Placing, by: &S) -> Result<S::Answer, Refusal> {
     let list = list(window, 32);
-    value(&window.shape, placing, |local| {
+    by.value(&window.shape, placing, |local| {
         let net = &window.net[local..];
         let (mut shares, mut sum) = (0, 0i64);
         for &(base, pair) in &list {
@@ -34,9 +38,9 @@ fn in_64_bits(window: &Window, placing: &Placing) -> Result<Fraction, Refusal> {
 }
 
 /// The sum of uncertainties is at most 362880×65535, below 2^40.
-fn in_128_bits(window: &Window, placing: &Placing) -> Result<Fraction, Refusal> {
+fn in_128_bits<S: Sums>(window: &Window, placing: &Placing, by: &S) -> Result<S::Answer, Refusal> {
     let list = list(window, 40);
-    value(&window.shape, placing, |local| {
+    by.value(&window.shape, placing, |local| {
         let net = &window.net[local..];
         let (mut shares, mut sum) = (0, 0);
         for &(base, pair) in &list {

@@ -41,12 +41,15 @@ impl Placing {
     }
 }
 
-/// m!×D^m, none above the limit. The product so far never exceeds the whole one, so none on the way
+/// m!×D^m, or a refusal by 10 or 11. The product so far never exceeds the whole one, so none on the way
 /// overflows.
-fn denominator(degree: usize, divisor: u32) -> Option<u64> {
-    (1..=degree as u64).try_fold(1, |product, i| {
+pub fn denominator(shape: &Shape, divisor: u32) -> Result<u64, Refusal> {
+    if divisor == 0 || divisor > LARGEST_DIVISOR {
+        return refuse(10);
+    }
+    (1..=shape.degree as u64).try_fold(1, |product, i| {
         let product = product * i * u64::from(divisor);
-        (product <= LARGEST_DENOMINATOR).then_some(product)
+        if product <= LARGEST_DENOMINATOR { Ok(product) } else { refuse(11) }
     })
 }
 
@@ -58,17 +61,14 @@ fn split(coordinate: u32, size: usize, divisor: u32) -> (usize, u64) {
     ((coordinate / divisor) as usize, (coordinate % divisor).into())
 }
 
-/// Checks 10, 11, 12.
+/// Check 12. The divisor is allowed, and `denominator` is its own.
 pub fn place(
     shape: &Shape,
     sizes: [usize; 3],
     coordinates: [u32; 3],
     divisor: u32,
+    denominator: u64,
 ) -> Result<Placing, Refusal> {
-    if divisor == 0 || divisor > LARGEST_DIVISOR {
-        return refuse(10);
-    }
-    let Some(denominator) = denominator(shape.degree, divisor) else { return refuse(11) };
     let split = [0, 1, 2].map(|b| split(coordinates[b], sizes[b], divisor));
     let cell = split.map(|(cell, _)| cell);
     let inside = (0..3).all(|b| shape.extents[b] <= cell[b] + 1 && cell[b] < sizes[b]);

@@ -1,16 +1,18 @@
 //! The window gone through in the block at each local place.
 
-use super::bernstein::{Blended, value};
+use super::bernstein::Blended;
 use super::checks::{Call, checked};
 use super::window::Window;
-use super::{Fraction, Refusal};
+use super::{Refusal, Sums};
 
-pub fn answer(call: &Call) -> Result<Fraction, Refusal> {
-    let (window, placing) = checked(call)?;
-    value(&window.shape, &placing, |local| blend(&window, local))
+pub fn answer<S: Sums>(call: &Call, by: &S) -> Result<S::Answer, Refusal> {
+    let (window, placing) = checked::<S>(call)?;
+    by.value(&window.shape, &placing, |local| blend(&window, local))
 }
 
-/// The sums at the local place that stands at `local` in the net.
+/// The sums at the local place that stands at `local` in the net. Inlined in the exact and in the live call, as
+/// the compiler would by itself if there were only one of them.
+#[inline(always)]
 fn blend(window: &Window, local: usize) -> Blended {
     let &Window { shape, net, corrections, uncertainties, .. } = window;
     let m = shape.degree;

@@ -1,5 +1,6 @@
 use super::{pick, random_unit};
-use crate::hand::{Call, Fraction, Refusal, TUNED, answer, defined_order};
+use crate::hand::point::LiveAnswer;
+use crate::hand::{Call, Fraction, LIVE_TUNED, Refusal, TUNED, answer, defined_order, live_answer};
 use crate::torskavel::{self, Unit};
 use evaluator::random::Random;
 use std::collections::BTreeSet;
@@ -16,8 +17,26 @@ fn or_far(coordinate: u32, size: u32, divisor: u32, random: &mut Random) -> u32 
     }
 }
 
-/// The number of the library's refusal, 0 for none, where all agree.
-fn agreed(call: &Call) -> u32 {
+/// The numbers that the library's exact and live call answer, where all agree.
+fn agreed(call: &Call, with_uncertainty: bool) -> [u32; 2] {
+    [agreed_exact(call), agreed_live(call, with_uncertainty)]
+}
+
+fn agreed_live(call: &Call, on: bool) -> u32 {
+    let &Call { unit, net, corrections, uncertainties, coordinates, divisor } = call;
+    let library = torskavel::live_answer(unit, net, corrections, uncertainties, coordinates, divisor, on);
+    let expected = match library.number {
+        0 => Ok([library.numerator.to_bits(), library.uncertainty.to_bits()]),
+        number => Err(Refusal { number, place: library.place }),
+    };
+    for (shape, live) in [("straight", live_answer as LiveAnswer)].into_iter().chain(LIVE_TUNED) {
+        let bits = live(call, on).map(|floats| floats.bits());
+        assert_eq!(bits, expected, "{shape} {unit:?} {coordinates:?} {divisor} {on}");
+    }
+    library.number
+}
+
+fn agreed_exact(call: &Call) -> u32 {
     let &Call { unit, net, corrections, uncertainties, coordinates, divisor } = call;
     let library = torskavel::answer(unit, net, corrections, uncertainties, coordinates, divisor);
     let (numerator, uncertainty) = (library.numerator, library.uncertainty);
@@ -32,6 +51,12 @@ fn agreed(call: &Call) -> u32 {
     library.number
 }
 
+fn insert(numbers: &mut [BTreeSet<u32>; 2], agreed: [u32; 2]) {
+    for (numbers, number) in numbers.iter_mut().zip(agreed) {
+        numbers.insert(number);
+    }
+}
+
 /// Shares that add up to m! nearly everywhere, so that points are answered, and are refused with 23.
 fn nearly_defined(unit: Unit, random: &mut Random, net: &mut [u32], work: &mut [i32]) {
     torskavel::build(unit, &defined_order([unit.v1, unit.v2, unit.v3, unit.v4]), net, work);
@@ -44,7 +69,7 @@ fn nearly_defined(unit: Unit, random: &mut Random, net: &mut [u32], work: &mut [
 fn points_agree() {
     let mut random = Random::new(2);
     let (mut net, mut work) = (vec![0; PLACES], vec![0; PLACES]);
-    let mut numbers = BTreeSet::new();
+    let mut numbers = [BTreeSet::new(), BTreeSet::new()];
     for _ in 0..CALLS {
         let unit = random_unit(&mut random);
         nearly_defined(unit, &mut random, &mut net, &mut work);
@@ -62,20 +87,23 @@ fn points_agree() {
         let net = &net[..pick(&mut random, &[PLACES, PLACES, PLACES, 2196, 26])];
         let corrections = &corrections[..pick(&mut random, &[215, 216, 216, 216, 216, 64])];
         let uncertainties = &uncertainties[..];
-        numbers.insert(agreed(&Call { unit, net, corrections, uncertainties, coordinates, divisor }));
+        let call = Call { unit, net, corrections, uncertainties, coordinates, divisor };
+        insert(&mut numbers, agreed(&call, random.below(2) == 0));
     }
-    assert_eq!(numbers, BTreeSet::from([0, 4, 9, 10, 11, 12, 13, 21, 22, 23]));
+    let exact = BTreeSet::from([0, 4, 9, 10, 11, 12, 13, 21, 22, 23]);
+    let live = exact.iter().copied().chain([15]).collect();
+    assert_eq!(numbers, [exact, live]);
 }
 
-/// Multiplicities of each degree from 4, and the largest divisor of each.
-const LENT: [([u8; 4], u32); 7] = [
-    ([2, 2, 2, 1], 1850),
-    ([2, 2, 2, 2], 297),
-    ([3, 2, 2, 2], 85),
-    ([1, 4, 3, 2], 34),
-    ([3, 3, 3, 2], 17),
-    ([3, 3, 3, 3], 9),
-    ([1, 1, 1, 9], 9),
+/// Multiplicities of each degree from 4, and the largest divisors of each, of the exact and of the live call.
+const LENT: [([u8; 4], u32, u32); 7] = [
+    ([2, 2, 2, 1], 1850, 275),
+    ([2, 2, 2, 2], 297, 64),
+    ([3, 2, 2, 2], 85, 23),
+    ([1, 4, 3, 2], 34, 11),
+    ([3, 3, 3, 2], 17, 6),
+    ([3, 3, 3, 3], 9, 4),
+    ([1, 1, 1, 9], 9, 4),
 ];
 /// On each axis of the block.
 const SIZE: usize = 11;
@@ -108,18 +136,18 @@ fn disturb(net: &mut [u32], degree: usize, random: &mut Random) {
 #[test]
 fn lent_nets_of_any_numbers_agree() {
     let mut random = Random::new(5);
-    for (v, largest) in LENT {
+    for (v, largest, live_largest) in LENT {
         let empty = torskavel::empty_unit();
         let loaded = Unit { has_block: 1, n1: SIZE as u16, n2: SIZE as u16, n3: SIZE as u16, ..empty };
         let degree = v.iter().map(|&v| usize::from(v)).sum::<usize>() - 3;
         let (mut net, mut work) = (vec![0; torskavel::places(v)], vec![0; torskavel::places(v)]);
-        let mut numbers = BTreeSet::new();
+        let mut numbers = [BTreeSet::new(), BTreeSet::new()];
         for _ in 0..40 {
             let unit = torskavel::build(loaded, &defined_order(v), &mut net, &mut work).unit;
             let (corrections, uncertainties) = random_block(&mut random);
             for _ in 0..20 {
                 disturb(&mut net, degree, &mut random);
-                let divisor = pick(&mut random, &[1, largest - 1, largest]);
+                let divisor = pick(&mut random, &[1, live_largest, live_largest + 1, largest - 1, largest]);
                 let coordinates = [0; 3].map(|_| {
                     let any = random.between(8 * divisor as usize, SIZE * divisor as usize - 1) as u32;
                     or_far(any, SIZE as u32, divisor, &mut random)
@@ -132,9 +160,11 @@ fn lent_nets_of_any_numbers_agree() {
                     coordinates,
                     divisor,
                 };
-                numbers.insert(agreed(&call));
+                insert(&mut numbers, agreed(&call, random.below(2) == 0));
             }
         }
-        assert!(numbers.contains(&0) && numbers.contains(&23), "{v:?} {numbers:?}");
+        let [exact, live] = &numbers;
+        assert!([0, 23].iter().all(|number| exact.contains(number)), "{v:?} {numbers:?}");
+        assert!([0, 15, 23].iter().all(|number| live.contains(number)), "{v:?} {numbers:?}");
     }
 }

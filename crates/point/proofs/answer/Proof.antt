@@ -1,7 +1,7 @@
 -- The arrays that the blending has written hold the blended numbers, whose Bernstein sums are N and U.
 use mathlib.Core.List.{List}
 use mathlib.Core.Path.{_∙_, _≡_, ap, ap₂, subst, sym}
-use Prim.Native.Nat.{_<_, ℕ}
+use Prim.Native.Nat.{ℕ}
 use borrow.Author.Needs.{needs}
 use lib.IntN.{ℤ}
 use denote.Ref.{now}
@@ -10,18 +10,14 @@ use mir.Syntax.{w64}
 use mir.Val.{SFits}
 use Rattle.spline.specs.Multiplicities.{degree}
 use Rattle.unit.specs.Unit.{netOf}
-use Rattle.unit.specs.declared.Checked.the-variants.{Passed}
 use Rattle.placing.proofs.Ranks.{weights-add-up}
 use Rattle.placing.specs.Inner.Ranking.{weightSum}
 use Rattle.placing.specs.Place.{scale}
 use Rattle.placing.specs.Placing.{placing, sizes}
 use Rattle.placing.specs.declared.Placing.{Placing}
-use Rattle.blending.specs.Blend.{Sized, blendChecks, blendedCorrectionAt, blendedUncertaintyAt, correctionAt}
-use Rattle.blending.specs.Blend.{numberAt, signedAt, uncertaintyAt}
-use Rattle.blending.specs.LocalPlaces.{localPlaces}
-use Rattle.point.proofs.Answers.{answer-made, answer-refused, blend-placed, degree-few}
-use Rattle.point.proofs.Answers.{divisor-some, scaled-of, shift-at, spread-at}
-use Rattle.point.proofs.Parts.{parts-are}
+use Rattle.blending.specs.Blend.{correctionAt, numberAt, signedAt, uncertaintyAt}
+use Rattle.point.proofs.Answers.{answer-made, answer-refused, divisor-some}
+use Rattle.point.proofs.Blended as blended
 use Rattle.point.proofs.answer.Statement.{statement}
 use Rattle.point.specs.Bernstein.{shiftNumerator, uncertaintyNumerator}
 use Rattle.point.specs.Inner.Parts.{BlendedSizes, part, partsTo}
@@ -37,9 +33,6 @@ module _ (c : tie.After-degree-of) where
   abbrev start : tie.Start
   start = made .before .before .before .before .before
 
-  abbrev m : ℕ
-  m = degree (netOf (start .args .unit))
-
   abbrev q : Placing
   q = c .before .before .before .blended .given .0 .0
 
@@ -49,56 +42,25 @@ module _ (c : tie.After-degree-of) where
   abbrev spreads : List ℕ
   spreads = made .blend .last .1 .1 .1 .1 .1 .1 .1 .1 .1 .0
 
-  degree-is : c .degree-of .result ≡ m
+  degree-is : c .degree-of .result ≡ degree (netOf (start .args .unit))
   degree-is = c .degree-of .ensures .0 ∙ ap degree (c .before .of-unit .ensures)
 
-  -- all checks have passed, and the placing is the point's
-  placed : (let a = start .args in
-      (blendChecks (a .unit) (now (a .net)) (now (a .corrections)) (now (a .uncertainties)) (a .x) (a .y)
-      (a .z) (a .divisor) ≡ Passed)
-      × (q ≡ placing (a .unit) (a .x) (a .y) (a .z) (a .divisor)))
-  placed =
-      blend-placed _ _ _ _ _ _ _ _
-      (sym (made .blend .ensures .0) ∙ c .before .before .before .blended .given .1)
-
-  sized : (let a = start .args in
-      Sized (a .unit) (now (a .net)) (now (a .corrections)) (now (a .uncertainties)) q)
-  sized = made .blend .ensures .1 .1 .1 q (c .before .before .before .blended .given .1)
+  left : (let a = start .args in
+      blended.Blended (a .unit) (now (a .net)) (now (a .corrections)) (now (a .uncertainties)) (a .x) (a .y)
+      (a .z) (a .divisor) q shifts spreads)
+  left =
+      let p = c .before .before .before .blended .given .1 in
+      let b = made .blend .ensures in
+      blended.blended _ _ _ _ _ _ _ _ _ _ (sym (b .0) ∙ p) (b .1 .0) (b .1 .1 .0) (b .1 .1 .1 q p)
 
   scaled : Scaled (c .degree-of .result) q
-  scaled =
-      subst (λ (k : ℕ). Scaled k q) (sym degree-is)
-      (subst (Scaled m) (sym (placed .1)) (scaled-of _ _ _ _ _ _ _ _ (placed .0)))
+  scaled = subst (λ (k : ℕ). Scaled k q) (sym degree-is) (left .scaled)
 
-  -- what the arrays hold
-  shift-is : (t : ℕ) → t < localPlaces m → (let a = start .args in
-      signedAt shifts t ≡ blendedCorrectionAt (a .unit) (now (a .net)) (now (a .corrections)) q t)
-  shift-is t h =
-      let a = start .args in
-      ap (λ (l : List ℤ). signedAt l t) (made .blend .ensures .1 .0)
-      ∙ shift-at _ _ _ _ _ _ _ _ (placed .0) _ t h
-      ∙ ap (λ (p : Placing). blendedCorrectionAt (a .unit) (now (a .net)) (now (a .corrections)) p t)
-      (sym (placed .1))
-
-  spread-is : (t : ℕ) → t < localPlaces m → (let a = start .args in
-      numberAt spreads t ≡ blendedUncertaintyAt (a .unit) (now (a .net)) (now (a .uncertainties)) q t)
-  spread-is t h =
-      let a = start .args in
-      ap (λ (l : List ℕ). numberAt l t) (made .blend .ensures .1 .1 .0)
-      ∙ spread-at _ _ _ _ _ _ _ _ (placed .0) _ t h
-      ∙ ap (λ (p : Placing). blendedUncertaintyAt (a .unit) (now (a .net)) (now (a .uncertainties)) p t)
-      (sym (placed .1))
-
-  sizes-held : BlendedSizes (c .degree-of .result) (signedAt shifts) (numberAt spreads)
-  sizes-held =
-      subst (λ (k : ℕ). BlendedSizes k (signedAt shifts) (numberAt spreads)) (sym degree-is) (record {
-        of-shifts = λ t h. rw (shift-is t h) (sized .of-corrections t h);
-        of-spreads = λ t h. rw (spread-is t h) (sized .of-uncertainties t h);
-      })
+  sized : BlendedSizes (c .degree-of .result) (signedAt shifts) (numberAt spreads)
+  sized = subst (λ (k : ℕ). BlendedSizes k (signedAt shifts) (numberAt spreads)) (sym degree-is) (left .sized)
 
 -- the sums are N and U
-sums-are : (c : tie.After-bernstein-sums) → (let d = c .before .before .before in
-    let a = start d .args in
+sums-are : (c : tie.After-bernstein-sums) → (let a = start (c .before .before .before) .args in
     let q = placing (a .unit) (a .x) (a .y) (a .z) (a .divisor) in
     c .bernstein-sums .result
     ≡ part (shiftNumerator (netOf (a .unit)) (numberAt (now (a .net)))
@@ -107,30 +69,21 @@ sums-are : (c : tie.After-bernstein-sums) → (let d = c .before .before .before
     (uncertaintyAt (sizes (a .unit)) (now (a .uncertainties))) q))
 sums-are c =
     let d = c .before .before .before in
-    let a = start d .args in
-    let v = netOf (a .unit) in
-    let net = numberAt (now (a .net)) in
-    let corrections = correctionAt (sizes (a .unit)) (now (a .corrections)) in
-    let uncertainties = uncertaintyAt (sizes (a .unit)) (now (a .uncertainties)) in
     c .bernstein-sums .ensures
     ∙ ap (λ (k : ℕ). partsTo k (q d) (signedAt (shifts d)) (numberAt (spreads d))) (degree-is d)
-    ∙ parts-are (a .unit) (q d) (now (a .net)) (degree-few _ _ _ _ _ _ _ _ (placed d .0))
-    (now (a .corrections)) (now (a .uncertainties)) (signedAt (shifts d)) (numberAt (spreads d))
-    (shift-is d) (spread-is d)
-    ∙ ap
-    (λ (p : Placing). part (shiftNumerator v net corrections p) (uncertaintyNumerator v net uncertainties p))
-    (placed d .1)
+    ∙ left d .sums
 
 -- and the denominator is m!×D^m
-denominator-is : (c : tie.After-denominator) → (let d = c .before .before .before .before in
-    c .denominator .result ≡ scale (m d) (start d .args .divisor))
+denominator-is : (c : tie.After-denominator) → (let a = start (c .before .before .before .before) .args in
+    c .denominator .result ≡ scale (degree (netOf (a .unit))) (a .divisor))
 denominator-is c =
     let d = c .before .before .before .before in
     let a = start d .args in
     c .denominator .ensures
-    ∙ ap₂ (λ (k : ℕ) (p : Placing). scale k (weightSum p)) (degree-is d) (placed d .1)
-    ∙ ap (scale (m d))
-    (weights-add-up (a .unit) (a .x) (a .y) (a .z) (a .divisor) (divisor-some _ _ _ _ _ _ _ _ (placed d .0)))
+    ∙ ap₂ (λ (k : ℕ) (p : Placing). scale k (weightSum p)) (degree-is d) (left d .placed)
+    ∙ ap (scale (degree (netOf (a .unit))))
+    (weights-add-up (a .unit) (a .x) (a .y) (a .z) (a .divisor)
+    (divisor-some _ _ _ _ _ _ _ _ (left d .passed)))
 
 blend-requires : tie.Need-blend-requires
 blend-requires c κs = search needs
@@ -145,7 +98,7 @@ degree-of-requires : tie.Need-degree-of-requires
 degree-of-requires c κs = search needs
 
 bernstein-sums-requires : tie.Need-bernstein-sums-requires
-bernstein-sums-requires c κs = (scaled (c .before .before), sizes-held (c .before .before))
+bernstein-sums-requires c κs = (scaled (c .before .before), sized (c .before .before))
 
 denominator-requires : tie.Need-denominator-requires
 denominator-requires c κs = scaled (c .before .before .before)
@@ -159,7 +112,7 @@ returns c =
     let f : SFits w64 (b .bernstein-sums .result .numerator)
     = record { sfits = c .struct-told .given .0 .1 } in
     rw (toZ-ofZ f, sums-are b, denominator-is (c .before))
-    (answer-made _ _ _ _ _ _ _ _ (placed (b .before .before .before) .0))
+    (answer-made _ _ _ _ _ _ _ _ (left (b .before .before .before) .passed))
 
 returns-2 : tie.Need-returns-2
 returns-2 c =

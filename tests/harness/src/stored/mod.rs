@@ -2,9 +2,11 @@
 
 pub mod builds;
 pub mod inspections;
+pub mod live;
 pub mod loads;
 pub mod nets;
 pub mod points;
+mod scene;
 
 use crate::Outcome;
 use crate::answers::Changed;

@@ -15,7 +15,7 @@ use Rattle.blending.specs.Blend.{numberAt, signedAt}
 use Rattle.blending.specs.LocalPlaces.{localAt, localPlaces}
 use Rattle.point.proofs.Parts.{next-numerator, next-uncertainty, parts-next, parts-none, shift-size}
 use Rattle.point.proofs.Parts.{shift-weighed, spread-weighed}
-use Rattle.point.proofs.Weights.{powers-within}
+use Rattle.point.proofs.Weights.{powers-within, table-held}
 use Rattle.blending.specs.declared.local.LocalPlace.{LocalPlace}
 use Rattle.point.specs.Bernstein.{termWeight}
 use Rattle.point.specs.Inner.Parts.{addParts, firstParts, weighed}
@@ -132,7 +132,7 @@ weight-requires c κs =
         second = o .second;
         first = degree-at (s .args .m) (l .loop .t) (s .pre .0 .degree) (listed i);
       }),
-      made0 .before .before .binomials .ensures,
+      rw (made0 .before .before .binomials .ensures) table-held,
       record {
         of0 = made0 .powers .ensures;
         of1 = made1 .powers2 .ensures;

@@ -1,15 +1,16 @@
-//! One point call, and how a sound one is made.
+//! One point call, exact or live, and how a sound one is made.
 
 use super::super::{absent, long_enough, pick, sizes};
+use super::Asked;
 use crate::Outcome;
 use crate::answers::{Answered, Handed, number};
 use crate::calls::Point;
+use crate::live::Live;
 use crate::report::Tally;
 use crate::shelf::{LentNet, Shelf};
 use evaluator::field::{Block, NEVER_MEASURED};
-use evaluator::lent;
 use evaluator::net::Multiplicities;
-use evaluator::point::{Call, largest_divisor};
+use evaluator::point::Call;
 use evaluator::random::Random;
 use evaluator::unit::{Sizes, Unit};
 
@@ -25,42 +26,42 @@ pub struct Case {
     pub remainder: [u32; 3],
     pub coordinates: [u32; 3],
     pub divisor: u32,
+    /// Of a live call, for the uncertainty.
+    flag: Option<u8>,
 }
 
 impl Case {
-    /// What the evaluator is handed, the net apart.
-    pub fn call(&self) -> Call<'_> {
-        let Case { handed, net_length, corrections, uncertainties, coordinates, divisor, .. } = self;
-        let (unit, net_length, coordinates, divisor) = (handed.unit, *net_length, *coordinates, *divisor);
-        Call { unit, net_length, corrections, uncertainties, coordinates, divisor }
-    }
-
-    /// Makes the call with this net slice.
-    pub fn hold_to(&self, expected: &Answered, net: &[u32]) -> Outcome {
-        let Call { corrections, uncertainties, coordinates, divisor, .. } = self.call();
-        let (unit, told) = (self.handed, self.net.to_string());
-        Point { unit, net, told, corrections, uncertainties, coordinates, divisor }.check(expected)
-    }
-
-    /// Makes the call; the lent net's shares give the expected answer, whose number is handed on.
-    pub fn check(&self, shelf: &Shelf, tally: &mut Tally) -> Outcome<u8> {
-        let net = self.net.slice(shelf, self.net_length);
-        let expected = lent::answer(&self.call(), &net);
-        self.hold_to(&expected, &net)?;
-        tally.count(number(&expected));
-        Ok(number(&expected))
+    /// Makes the call; `exact` gives the exact answer over a net slice. The expected number is handed on.
+    pub fn check<F>(&self, shelf: &Shelf, tally: &mut Tally, exact: F) -> Outcome<u8>
+    where
+        F: Fn(&Call, &[u32]) -> Answered,
+    {
+        let Case { handed, corrections, uncertainties, coordinates, divisor, .. } = self;
+        let (unit, coordinates, divisor, told) = (*handed, *coordinates, *divisor, self.net.to_string());
+        let net = &self.net.slice(shelf, self.net_length);
+        let point = &Point { unit, net, told, corrections, uncertainties, coordinates, divisor };
+        let exact = exact(&point.evaluated(), net);
+        let number = match self.flag {
+            None => point.check(&exact).map(|()| number(&exact))?,
+            Some(flag) => {
+                let expected = evaluator::live::answer(&point.evaluated(), exact, flag != 0);
+                Live { point, flag }.check(&expected).map(|()| number(&expected))?
+            }
+        };
+        tally.count(number);
+        Ok(number)
     }
 
     /// A point inside, at a divisor that is allowed, over a defined net.
-    pub fn sound(v: Multiplicities, random: &mut Random) -> Case {
-        let largest = largest_divisor(v.degree());
+    pub fn sound(asked: Asked, v: Multiplicities, random: &mut Random) -> Case {
+        let largest = asked.largest_divisor(v.degree());
         let any = random.between(1, largest as usize) as u32;
         let divisor = pick(random, &[1, 2, largest.min(7), largest, largest, any, any, any]);
-        Case::over(divisor, v, random)
+        Case::over(divisor, asked, v, random)
     }
 
     /// The point inside that is sound but for its divisor.
-    pub fn over(divisor: u32, v: Multiplicities, random: &mut Random) -> Case {
+    pub fn over(divisor: u32, asked: Asked, v: Multiplicities, random: &mut Random) -> Case {
         let sizes = sizes(v.extents(), random);
         let (extents, axes) = (v.extents(), sizes.axes());
         let mut cube = [0, 1, 2].map(|b| random.between(extents[b] - 1, axes[b] - 1));
@@ -78,7 +79,8 @@ impl Case {
         let coordinates = [0, 1, 2].map(coordinate);
         let handed = Handed { unit: Unit::EMPTY.with_net(v).with_block(sizes), absent: absent(random) };
         let (net, net_length) = (LentNet::defined(v), long_enough(v.places(), random));
-        Case { handed, net, net_length, corrections, uncertainties, cube, remainder, coordinates, divisor }
+        let flag = asked.flag(random);
+        Case { handed, net, net_length, corrections, uncertainties, cube, remainder, coordinates, divisor, flag }
     }
 }
 
@@ -98,14 +100,24 @@ fn far_axes(random: &mut Random) -> impl Iterator<Item = usize> {
     (0..3).filter(move |b| faces >> b & 1 == 1)
 }
 
-/// Random entries, one correction throughout, or the largest numbers that the slices can hold.
+/// Random entries, one correction throughout, the largest numbers that the slices can hold, or mostly 0.
 fn block(sizes: Sizes, random: &mut Random) -> Block {
     let any = random.between(0, 65534) as i32 - 32767;
-    match random.below(4) {
+    match random.below(5) {
         0 => Block::constant(sizes, any as i16, random.below(65536) as u16),
         1 => Block::constant(sizes, pick(random, &[32767, -32767]), u16::MAX),
+        2 => sparse(sizes, random),
         _ => Block::random(sizes, random),
     }
+}
+
+/// Small numbers of either sign, so that many sums are 0.
+fn sparse(sizes: Sizes, random: &mut Random) -> Block {
+    let mut block = Block::constant(sizes, 0, pick(random, &[0, 1]));
+    for correction in &mut block.corrections {
+        *correction = pick(random, &[0, 0, 0, 0, 1, -1]);
+    }
+    block
 }
 
 /// Every entry that the point does not need was never measured.

@@ -1,26 +1,32 @@
 //! Point calls that the checks refuse, and calls with any numbers.
 
 use super::super::{break_multiplicities, break_sizes, pick, shape, shorten, too_short, unit};
+use super::Asked;
 use super::case::Case;
 use crate::shelf::Shelf;
 use evaluator::field::NEVER_MEASURED;
 use evaluator::interpolation::quadruples;
 use evaluator::net::Multiplicities;
-use evaluator::point::{LARGEST_DIVISOR, largest_divisor};
+use evaluator::point::LARGEST_DIVISOR;
 use evaluator::random::Random;
+use evaluator::{live, point};
 
-/// Degrees from this on have divisors that 11 refuses and 10 does not.
-const LEAST_DEGREE_OF_11: usize = 4;
+/// The checks of a divisor, each with the degree from which on it refuses divisors that no earlier one does.
+const DIVISOR_CHECKS: [(u8, usize); 3] = [(10, 1), (11, 4), (15, 3)];
 
 /// A sound call with the faults of these checks.
-pub fn faulty(checks: &[u8], shelf: &Shelf, random: &mut Random) -> Case {
+pub fn faulty(asked: Asked, checks: &[u8], shelf: &Shelf, random: &mut Random) -> Case {
+    let of_divisor: Vec<_> = DIVISOR_CHECKS.into_iter().filter(|(check, _)| checks.contains(check)).collect();
     let mut v = shape(random);
-    while checks.contains(&11) && v.degree() < LEAST_DEGREE_OF_11 {
+    while of_divisor.iter().any(|&(_, least)| v.degree() < least) {
         v = shape(random);
     }
-    let mut case = match checks.iter().find(|check| [10, 11].contains(check)) {
-        Some(check) => Case::over(refused_divisor(*check, checks, v, random), v, random),
-        None => Case::sound(v, random),
+    let mut case = match of_divisor.first() {
+        Some(&(check, _)) => {
+            let divisor = refused_divisor(check, of_divisor.len() == 1, v, random);
+            Case::over(divisor, asked, v, random)
+        }
+        None => Case::sound(asked, v, random),
     };
     // Last the first check's: what breaks the unit hides what the others need of it.
     for &check in checks.iter().rev() {
@@ -29,12 +35,22 @@ pub fn faulty(checks: &[u8], shelf: &Shelf, random: &mut Random) -> Case {
     case
 }
 
-fn refused_divisor(check: u8, checks: &[u8], v: Multiplicities, random: &mut Random) -> u32 {
-    let above = random.between(LARGEST_DIVISOR as usize + 1, u32::MAX as usize) as u32;
+/// A divisor that this check refuses, alone or with a later one.
+fn refused_divisor(check: u8, alone: bool, v: Multiplicities, random: &mut Random) -> u32 {
+    let any = |random: &mut Random, first: u32, last: u32| random.between(first as usize, last as usize) as u32;
+    let past = point::largest_divisor(v.degree()) + 1;
     match check {
-        10 if checks.contains(&11) => pick(random, &[LARGEST_DIVISOR + 1, above, u32::MAX]),
-        10 => pick(random, &[0, LARGEST_DIVISOR + 1, above, u32::MAX]),
-        _ => random.between(largest_divisor(v.degree()) as usize + 1, LARGEST_DIVISOR as usize) as u32,
+        10 => {
+            let above = any(random, LARGEST_DIVISOR + 1, u32::MAX);
+            let choices = [LARGEST_DIVISOR + 1, above, u32::MAX, 0];
+            pick(random, if alone { &choices } else { &choices[..3] })
+        }
+        11 => any(random, past, LARGEST_DIVISOR),
+        _ => {
+            let live_past = live::largest_divisor(v.degree()) + 1;
+            let between = any(random, live_past, past - 1);
+            pick(random, &[live_past, past - 1, between])
+        }
     }
 }
 
@@ -111,12 +127,12 @@ fn one_share_more(case: &mut Case, shelf: &Shelf, random: &mut Random) {
 }
 
 /// Any unit over a small net and block, any point and any divisor.
-pub fn free(random: &mut Random) -> Case {
+pub fn free(asked: Asked, random: &mut Random) -> Case {
     let degree = random.between(1, 3);
     let v = pick(random, &Multiplicities::of_degree(degree));
     let any = random.below(1 << 32) as u32;
     let divisor = pick(random, &[0, 1, 2, 3, 4096, 4097, any]);
-    let mut case = Case::over(divisor, v, random);
+    let mut case = Case::over(divisor, asked, v, random);
     if random.below(2) == 0 {
         case.handed = unit(random);
     }

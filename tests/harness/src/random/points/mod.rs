@@ -1,29 +1,63 @@
-//! Random points: over defined nets, with faults, and over damaged nets.
+//! Random points, of the exact or of the live call: over defined nets, with faults, and over damaged nets.
 
 mod case;
 mod damage;
 mod faults;
 mod spread;
 
-use super::{Plan, each_case, each_plan, shape};
+use super::{Plan, each_case, each_plan, pick, shape};
 use crate::Outcome;
-use crate::answers::number;
 use crate::report::Tally;
 use crate::shelf::Shelf;
 use case::Case;
+use evaluator::random::Random;
+use evaluator::{lent, live, point};
 pub use spread::Spread;
 
-const CHECKS: [u8; 9] = [21, 22, 4, 9, 10, 11, 12, 13, 23];
+/// The call that is asked.
+#[derive(Clone, Copy)]
+pub enum Asked {
+    Exact,
+    Live,
+}
+
+impl Asked {
+    fn checks(self) -> &'static [u8] {
+        match self {
+            Asked::Exact => &[21, 22, 4, 9, 10, 11, 12, 13, 23],
+            Asked::Live => &[21, 22, 4, 9, 10, 11, 15, 12, 13, 23],
+        }
+    }
+
+    /// The greatest divisor that none of its checks refuses.
+    fn largest_divisor(self, degree: usize) -> u32 {
+        match self {
+            Asked::Exact => point::largest_divisor(degree),
+            Asked::Live => live::largest_divisor(degree),
+        }
+    }
+
+    /// A live call's byte for the uncertainty: 0, 1 or any.
+    fn flag(self, random: &mut Random) -> Option<u8> {
+        match self {
+            Asked::Exact => None,
+            Asked::Live => {
+                let any = random.below(256) as u8;
+                Some(pick(random, &[0, 1, any]))
+            }
+        }
+    }
+}
 
 /// Calls of all plans; the lent net's shares give the expected answers.
-pub fn any(seed: u64, count: usize, shelf: &Shelf, spread: &mut Spread, tally: &mut Tally) -> Outcome {
-    each_plan(seed, count, &CHECKS, |plan, random| {
+pub fn any(asked: Asked, seed: u64, count: usize, shelf: &Shelf, spread: &mut Spread, tally: &mut Tally) -> Outcome {
+    each_plan(seed, count, asked.checks(), |plan, random| {
         let case = match plan {
-            Plan::Sound => Case::sound(shape(random), random),
-            Plan::Faulty(checks) => faults::faulty(checks, shelf, random),
-            Plan::Free => faults::free(random),
+            Plan::Sound => Case::sound(asked, shape(random), random),
+            Plan::Faulty(checks) => faults::faulty(asked, checks, shelf, random),
+            Plan::Free => faults::free(asked, random),
         };
-        plan.made(case.check(shelf, tally)?)?;
+        plan.made(case.check(shelf, tally, lent::answer)?)?;
         if let Plan::Sound = plan {
             spread.count(&case);
         }
@@ -32,23 +66,21 @@ pub fn any(seed: u64, count: usize, shelf: &Shelf, spread: &mut Spread, tally: &
 }
 
 /// Sound calls; the recurrence gives the expected answers, without a net.
-pub fn by_recurrence(seed: u64, count: usize, shelf: &Shelf, tally: &mut Tally) -> Outcome {
+pub fn by_recurrence(asked: Asked, seed: u64, count: usize, shelf: &Shelf, tally: &mut Tally) -> Outcome {
     each_case(seed, count, |_, random| {
-        let case = Case::sound(shape(random), random);
-        let expected = evaluator::point::answer(&case.call());
-        case.hold_to(&expected, &case.net.slice(shelf, case.net_length))?;
-        tally.count(number(&expected));
+        let case = Case::sound(asked, shape(random), random);
+        case.check(shelf, tally, |call, _| point::answer(call))?;
         Ok(())
     })
 }
 
 /// Sound calls but for the lent net, which is damaged in each way in turn.
-pub fn damaged(seed: u64, count: usize, shelf: &Shelf, tally: &mut Tally) -> Outcome {
+pub fn damaged(asked: Asked, seed: u64, count: usize, shelf: &Shelf, tally: &mut Tally) -> Outcome {
     each_case(seed, count, |number, random| {
-        let mut case = Case::sound(shape(random), random);
+        let mut case = Case::sound(asked, shape(random), random);
         let damage = damage::WAYS[number % damage::WAYS.len()];
         damage(&mut case, shelf, random);
-        case.check(shelf, tally)?;
+        case.check(shelf, tally, lent::answer)?;
         Ok(())
     })
 }

@@ -1,23 +1,23 @@
--- After i turns the product is i!×D^i and at most the limit.
+-- After i turns the product is i!×D^i and not too large.
 use mathlib.Core.Path.{_≡_, refl, sym}
 use Prim.Native.Nat.{_*_, _+_, _-_, _≤_, ℕ}
 use native.Mathlib.Nat.{mul-le-mul}
 use native.Mathlib.Omega.{arith}
 use borrow.Author.Tests.{le-leb, lt-leb}
 use Rattle.placing.proofs.Scale.{scale-le, scale-next, scale-zero}
-use Rattle.placing.proofs.scale_allowed.Statement.{statement}
+use Rattle.placing.proofs.divisor.scale_allowed.Statement.{statement}
 use Rattle.placing.specs.Place.{limit, scale}
-use Rattle.placing.proofs.scale_allowed.Tie as tie
+use Rattle.placing.proofs.divisor.scale_allowed.Tie as tie
 
 -- one factor more
 step : {s : ℕ} (D i : ℕ) → s ≡ scale i D → s * ((i + 1) * D) ≡ scale (i + 1) D
 step D i e = rw (scale-next i D, e) refl
 
 abbrev Inv-loop : tie.InvT-loop
-Inv-loop m divisor d product₀ i₀ product i = (i ≤ m) × (product ≡ scale i divisor) × (product ≤ limit)
+Inv-loop m divisor most d product₀ i₀ product i = (i ≤ m) × (product ≡ scale i divisor) × (product ≤ most)
 
 abbrev μ-loop : tie.MeasureT-loop
-μ-loop m divisor d product₀ i₀ product i = m - i
+μ-loop m divisor most d product₀ i₀ product i = m - i
 
 loop-holds : tie.Need-loop-holds Inv-loop μ-loop
 loop-holds c = (omega arith, sym (scale-zero (c .args .divisor)), omega arith)
@@ -33,7 +33,9 @@ mul-product c =
 mul-product-2 : tie.Need-mul-product-2 Inv-loop μ-loop
 mul-product-2 c =
     let i : c .before .loop .i + 1 ≤ 9 = omega arith in
-    omega (arith, mul-le-mul (c .before .loop .inv .2) (mul-le-mul i (c .before .before .pre .2)))
+    let p = c .before .before .pre in
+    let small : c .before .loop .product ≤ limit = omega (arith, c .before .loop .inv .2, p .4) in
+    omega (arith, mul-le-mul small (mul-le-mul i (p .2)))
 
 returns : tie.Need-returns Inv-loop μ-loop
 returns c =
@@ -41,7 +43,7 @@ returns c =
     let at = c .before .before .loop in
     let e = step (s .args .divisor) (at .i) (at .inv .1) in
     let l = scale-le (at .i + 1) (s .args .m) (s .args .divisor) (s .pre .1) (omega arith) in
-    sym (lt-leb (scale (s .args .m) (s .args .divisor)) limit (omega arith))
+    sym (lt-leb (scale (s .args .m) (s .args .divisor)) (s .args .most) (omega arith))
 
 loop-less : tie.Need-loop-less Inv-loop μ-loop
 loop-less c = omega arith
@@ -57,7 +59,7 @@ returns-2 c =
     let at = c .before .loop in
     let e : at .i ≡ s .args .m = omega arith in
     let v : at .product ≡ scale (s .args .m) (s .args .divisor) = rw e at (at .inv .1) in
-    sym (le-leb (scale (s .args .m) (s .args .divisor)) limit (omega arith))
+    sym (le-leb (scale (s .args .m) (s .args .divisor)) (s .args .most) (omega arith))
 
 pub scale-allowed-spec : {M : Type 1} → statement M
 scale-allowed-spec =

@@ -1,0 +1,48 @@
+-- What a live call answers, by cases in the order of its checks (21, 22, 4, 9, 10, 11, 15, 12, 13, 23):
+-- Sections 11.7 and 11.8.
+use mathlib.Core.Bool.{Bool, false, true}
+use mathlib.Core.List.{List}
+use Prim.Native.Nat.{ℕ}
+use lib.Ieee.{Float, binary64, ofInt}
+use lib.IntN.{pos, ℤ}
+use lib.ListN.{length}
+use Rattle.unit.specs.Checks.{andThen, passedOr}
+use Rattle.unit.specs.Unit.{netOf}
+use Rattle.unit.specs.declared.Checked.{Checked}
+use Rattle.unit.specs.declared.Unit.{Unit}
+use Rattle.placing.specs.Place.{divisorChecks, insideCheck, lentChecks, liveCheck}
+use Rattle.placing.specs.Placing.{cells, placing, sizes}
+use Rattle.blending.specs.Blend.{correctionAt, numberAt, uncertaintyAt, windowChecks}
+use Rattle.point.specs.Bernstein.{shiftNumerator, uncertaintyNumerator}
+use Rattle.live.specs.declared.LiveAnswer.{LiveAnswer}
+use Rattle.live.specs.declared.LiveAnswer.the-variants.{Both, Refused, Shift}
+
+-- Section 11.7: a whole number as a 64-bit float
+abbrev pub float : ℤ → Float
+float z = ofInt binary64 z
+
+-- Section 11.8: N and U as floats, or N alone where the uncertainty is switched off
+abbrev pub liveValue : Bool → ℤ → ℕ → LiveAnswer
+liveValue true N U = Both (record { numerator = float N; uncertainty = float (pos U) })
+liveValue false N U = Shift (float N)
+
+module _ (u : Unit) (net : List ℕ) (corrections : List ℤ) (uncertainties : List ℕ) (x y z D : ℕ) where
+  -- Section 11.8: all checks in their order
+  unfoldable pub liveChecks : Checked
+  liveChecks =
+      andThen (lentChecks u (length net) (length corrections) (length uncertainties))
+      (andThen (divisorChecks (netOf u) D)
+      (andThen (liveCheck (netOf u) D)
+      (andThen (insideCheck (netOf u) (sizes u) (cells u x y z D))
+      (windowChecks (netOf u) (sizes u) (numberAt net) (correctionAt (sizes u) corrections)
+      (placing u x y z D)))))
+
+  -- Section 11.8: the answer, by the flag that switches the uncertainty on
+  unfoldable pub liveAnswer : Bool → LiveAnswer
+  liveAnswer withUncertainty =
+      passedOr liveChecks
+      (liveValue withUncertainty
+      (shiftNumerator (netOf u) (numberAt net) (correctionAt (sizes u) corrections) (placing u x y z D))
+      (uncertaintyNumerator (netOf u) (numberAt net) (uncertaintyAt (sizes u) uncertainties)
+      (placing u x y z D)))
+      Refused
