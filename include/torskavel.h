@@ -46,10 +46,10 @@ extern "C" {
 #endif
 
 #define TORSKAVEL_VERSION_MAJOR 0
-#define TORSKAVEL_VERSION_MINOR 3
+#define TORSKAVEL_VERSION_MINOR 4
 #define TORSKAVEL_VERSION_PATCH 0
 
-#define TORSKAVEL_MAX_CODE 16384
+#define TORSKAVEL_MAX_CODE 20480
 #define TORSKAVEL_MAX_STACK 12288
 #define TORSKAVEL_MAX_STACK_BUILD 2048
 #define TORSKAVEL_MAX_STACK_LOAD 256
@@ -69,7 +69,7 @@ extern "C" {
 #define TORSKAVEL_MAX_DENOMINATOR UINT64_C(281474976710656)
 #define TORSKAVEL_MAX_LIVE_DENOMINATOR UINT64_C(137438953472)
 
-/* The correction of an entry that was never measured. */
+/* The correction of a gap, an entry that was never measured. In a file its uncertainty is 0. */
 #define TORSKAVEL_NEVER_MEASURED (-32768)
 
 /* For multiplicities within the limits, the degree m of their net, the places on an axis of its box, and its places
@@ -121,6 +121,7 @@ enum torskavel_refused {
     TORSKAVEL_REFUSED_UNMEASURED = 13,     /* the point needs an entry that was never measured; place: the lowest such */
     TORSKAVEL_REFUSED_NET_DIFFERS = 14,    /* the net is not the defined one; place: the lowest index that differs */
     TORSKAVEL_REFUSED_LIVE_DENOMINATOR = 15, /* in a live call alone: m! * divisor^m is above 2^37 */
+    TORSKAVEL_REFUSED_UNCERTAIN_GAP = 16,  /* the uncertainty of a gap in the file is not 0; place: the lowest such entry */
     TORSKAVEL_REFUSED_NO_NET = 21,         /* the unit has no net */
     TORSKAVEL_REFUSED_NO_BLOCK = 22,       /* the unit has no block */
     TORSKAVEL_REFUSED_SHARES = 23          /* no net that answers this point was lent: its shares do not add up to m! */
@@ -184,7 +185,7 @@ struct torskavel_unit_answer torskavel_inspect(
 
 /*
  * Loads a field file: n1, n2, n3, then n1 * n2 * n3 corrections (signed), then as many uncertainties, all in 16 bits, the
- * low byte first. Refused by 5, 6, 7, 8, 9.
+ * low byte first. Refused by 5, 6, 7, 8, 16, 9, in this order.
  *
  * The numbers are written to the first n1 * n2 * n3 elements of corrections and of uncertainties; those past them stay as
  * they are. A refused load writes to neither. The unit answered has the block, and keeps its net half byte for byte.
@@ -203,7 +204,8 @@ struct torskavel_unit_answer torskavel_load(
  * down; but k is nb - 1 where the coordinate is nb * divisor, the far face. So inside are the coordinates from
  * (vb + v4 - 1) * divisor to nb * divisor, both included; where nb is less than vb + v4, none.
  *
- * The limit on uncertainties is one of files: lent uncertainties may be any, up to 65535.
+ * 8 and 16 are checks of files alone: lent uncertainties may be any, up to 65535. That of a gap is not looked at and
+ * changes no answer, so a block that an earlier version has loaded keeps working.
  */
 struct torskavel_point_answer torskavel_answer(
     struct torskavel_unit unit,

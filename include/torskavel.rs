@@ -13,11 +13,11 @@ use calls::*;
 use core::mem::{align_of, offset_of, size_of};
 
 pub const VERSION_MAJOR: u32 = 0;
-pub const VERSION_MINOR: u32 = 3;
+pub const VERSION_MINOR: u32 = 4;
 pub const VERSION_PATCH: u32 = 0;
 
 /// The most bytes of code and constants of the archive.
-pub const MAX_CODE: usize = 16384;
+pub const MAX_CODE: usize = 20480;
 /// The most bytes of stack that a call takes, but for what memset and memcpy take.
 pub const MAX_STACK: usize = 12288;
 /// The most bytes of stack that `build` and `inspect` take.
@@ -47,7 +47,7 @@ pub const MAX_DIVISOR: u32 = 4096;
 pub const MAX_DENOMINATOR: u64 = 281474976710656;
 /// The largest denominator with which a live call answers.
 pub const MAX_LIVE_DENOMINATOR: u64 = 137438953472;
-/// The correction of an entry that was never measured.
+/// The correction of a gap, an entry that was never measured. In a file its uncertainty is 0.
 pub const NEVER_MEASURED: i16 = -32768;
 
 /// The numbers of refusals, and 0 for none.
@@ -68,6 +68,7 @@ pub mod refused {
     pub const UNMEASURED: u32 = 13;
     pub const NET_DIFFERS: u32 = 14;
     pub const LIVE_DENOMINATOR: u32 = 15;
+    pub const UNCERTAIN_GAP: u32 = 16;
     pub const NO_NET: u32 = 21;
     pub const NO_BLOCK: u32 = 22;
     pub const SHARES: u32 = 23;

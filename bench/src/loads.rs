@@ -40,7 +40,7 @@ impl Lent {
     }
 }
 
-fn by_library(
+pub fn by_library(
     unit: Unit,
     file: &[u8],
     corrections: &mut [i16],

@@ -31,7 +31,7 @@ SHAPE, SIZES, POINT, DIVISOR = (2, 1, 1, 1), (4, 3, 2), (10, 5, 7), 4
 FACE_POINT = (16, 5, 7)
 GAP = -32768
 CORRECTIONS = {(0, 0, 0): 10, (1, 0, 0): 20, (2, 1, 1): -30, (3, 2, 1): GAP}
-UNCERTAINTY = 3
+UNCERTAINTY = 3  # but 0 at a gap
 
 
 def svg(width, height, lines):
@@ -95,8 +95,8 @@ def nets_picture():
 def file(sizes, corrections):
     n1, n2, n3 = sizes
     entries = [corrections.get((j1, j2, j3), 0) for j3 in range(n3) for j2 in range(n2) for j1 in range(n1)]
-    n = len(entries)
-    return struct.pack(f"<3H{n}h{n}H", *sizes, *entries, *[UNCERTAINTY] * n)
+    uncertainties, n = [0 if entry == GAP else UNCERTAINTY for entry in entries], len(entries)
+    return struct.pack(f"<3H{n}h{n}H", *sizes, *entries, *uncertainties)
 
 
 def answered(shape, sizes, corrections, point, divisor, *changes):

@@ -38,7 +38,7 @@ impl Block {
     }
 }
 
-/// What a file holds, or its refusal by 5, 6, 7 or 8.
+/// What a file holds, or its refusal by 5, 6, 7, 8 or 16, which are checked in this order.
 pub fn read(file: &[u8]) -> Result<Block, Refusal> {
     refuse_if(file.len() < 6, 5)?;
     let pairs: Vec<[u8; 2]> = file.chunks_exact(2).map(|pair| [pair[0], pair[1]]).collect();
@@ -47,10 +47,19 @@ pub fn read(file: &[u8]) -> Result<Block, Refusal> {
     let n = sizes.entries();
     refuse_if(file.len() != 6 + 4 * n, 7)?;
     let corrections = pairs[3..3 + n].iter().map(|&pair| i16::from_le_bytes(pair)).collect();
-    let uncertainties: Vec<u16> = pairs[3 + n..].iter().map(|&pair| u16::from_le_bytes(pair)).collect();
-    match uncertainties.iter().position(|&u| u > LARGEST_UNCERTAINTY) {
-        Some(index) => Err(Refusal::at(8, index)),
-        None => Ok(Block { sizes, corrections, uncertainties }),
+    let uncertainties = pairs[3 + n..].iter().map(|&pair| u16::from_le_bytes(pair)).collect();
+    let block = Block { sizes, corrections, uncertainties };
+    refuse_entry(8, &block, |_, uncertainty| uncertainty > LARGEST_UNCERTAINTY)?;
+    refuse_entry(16, &block, |correction, uncertainty| correction == NEVER_MEASURED && uncertainty != 0)?;
+    Ok(block)
+}
+
+/// Refuses where an entry, correction and uncertainty, is such, at the lowest index of one.
+fn refuse_entry(number: u8, block: &Block, is_such: impl Fn(i16, u16) -> bool) -> Result<(), Refusal> {
+    let mut entries = block.corrections.iter().zip(&block.uncertainties);
+    match entries.position(|(&correction, &uncertainty)| is_such(correction, uncertainty)) {
+        Some(index) => Err(Refusal::at(number, index)),
+        None => Ok(()),
     }
 }
 
@@ -64,6 +73,10 @@ pub fn load(unit: &Unit, file: &[u8], lengths: [usize; 2]) -> Result<(Unit, Bloc
 #[cfg(test)]
 mod tests {
     use super::*;
+
+    /// Correction and uncertainty.
+    const GAP: (i16, u16) = (NEVER_MEASURED, 0);
+    const UNCERTAIN_GAP: (i16, u16) = (NEVER_MEASURED, 1);
 
     #[test]
     fn a_file_reads_as_the_block_it_was_made_from() {
@@ -83,11 +96,42 @@ mod tests {
         let number = |file: &[u8]| read(file).unwrap_err().number;
         assert_eq!(number(&[0, 0, 0, 0, 0]), 5);
         assert_eq!(number(&[0, 0, 1, 0, 1, 0]), 6);
+        assert_eq!(number(&[0, 0, 1, 0, 1, 0, 0, 128, 1, 0]), 6);
         assert_eq!(number(&[1, 0, 1, 0, 1, 0]), 7);
         assert_eq!(number(&[1, 0, 1, 0, 1, 0, 0, 0, 0, 128, 10]), 7);
+        assert_eq!(number(&[1, 0, 1, 0, 1, 0, 0, 128, 1, 0, 10]), 7);
         assert_eq!(number(&[1, 0, 1, 0, 1, 0, 0, 0, 0, 128]), 8);
+        assert_eq!(number(&[1, 0, 1, 0, 1, 0, 0, 128, 0, 128]), 8);
+        assert_eq!(number(&[1, 0, 1, 0, 1, 0, 0, 128, 1, 0]), 16);
         let good = [1, 0, 1, 0, 1, 0, 0, 0, 0, 127];
         assert_eq!(load(&Unit::EMPTY, &good, [1, 0]).unwrap_err().number, 9);
         assert!(load(&Unit::EMPTY, &good, [1, 1]).is_ok());
+    }
+
+    /// The refusal of a load of a row of entries into slices that hold so many.
+    fn refused(entries: &[(i16, u16)], length: usize) -> Option<Refusal> {
+        let (corrections, uncertainties) = entries.iter().copied().unzip();
+        let block = Block { sizes: Sizes::new([entries.len(), 1, 1]).unwrap(), corrections, uncertainties };
+        load(&Unit::EMPTY, &block.file(), [length; 2]).err()
+    }
+
+    #[test]
+    fn a_gap_has_no_uncertainty() {
+        assert_eq!(refused(&[GAP, (-32767, 1), (0, 1), (32767, 32767)], 4), None);
+        assert_eq!(refused(&[GAP, (7, 5), (NEVER_MEASURED, 32767), UNCERTAIN_GAP], 4), Some(Refusal::at(16, 2)));
+        assert_eq!(refused(&[UNCERTAIN_GAP; 3], 3), Some(Refusal::at(16, 0)));
+    }
+
+    #[test]
+    fn check_16_stands_between_8_and_9() {
+        let (measured, gap) = ((7, 32768), UNCERTAIN_GAP);
+        let large = [([gap, measured, gap], 1), ([measured, gap, gap], 0), ([gap, gap, (NEVER_MEASURED, 32768)], 2)];
+        for length in [3, 2, 0] {
+            for (entries, index) in large {
+                assert_eq!(refused(&entries, length), Some(Refusal::at(8, index)));
+            }
+            assert_eq!(refused(&[(7, 5), gap, gap], length), Some(Refusal::at(16, 1)));
+        }
+        assert_eq!(refused(&[GAP; 3], 2), Some(Refusal::from(9)));
     }
 }

@@ -14,6 +14,7 @@ static uint32_t net[PLACES], defined[PLACES];
 static int32_t work[PLACES];
 static int16_t corrections[TORSKAVEL_MAX_ENTRIES];
 static uint16_t uncertainties[TORSKAVEL_MAX_ENTRIES];
+static uint8_t file[TORSKAVEL_MAX_FILE + 1]; /* one byte more, so that too long a file is seen */
 
 /* Whether the call was refused; then the line ends with the refusal. */
 static bool refused(uint32_t number, size_t place) {
@@ -41,14 +42,18 @@ static struct torskavel_unit inspect(struct torskavel_unit unit) {
     return a.unit;
 }
 
-static struct torskavel_unit load(struct torskavel_unit unit, const char *path) {
-    static uint8_t file[TORSKAVEL_MAX_FILE + 1]; /* one byte more, so that too long a file is seen */
+/* Reads a file, and answers its length; 0 where it cannot be read. */
+static size_t read_file(const char *path) {
     size_t length = 0;
     FILE *in = fopen(path, "rb");
     if (in) {
         length = fread(file, 1, sizeof file, in);
         fclose(in);
     }
+    return length;
+}
+
+static struct torskavel_unit load(struct torskavel_unit unit, size_t length) {
     printf("load %zu bytes: ", length);
     struct torskavel_unit_answer a =
         torskavel_load(unit, file, length, corrections, TORSKAVEL_MAX_ENTRIES, uncertainties, TORSKAVEL_MAX_ENTRIES);
@@ -94,11 +99,14 @@ int main(int count, char **words) {
     answer(unit, 5, 5, 5, 2);
     unit = build(unit, (const uint8_t[]){1, 5}, 2);
     unit = build(unit, (const uint8_t[]){1, 3, 2}, 3);
-    unit = load(unit, words[1]);
+    const size_t length = read_file(words[1]);
+    unit = load(unit, length);
     answer(unit, 5, 5, 5, 2);
     answer(unit, 5, 6, 5, 2); /* on the far face of axis 2, which has 3 entries: 6 is 3 * 2 */
     answer(unit, 5, 7, 5, 2); /* past it */
     answer(unit, 7, 5, 5, 2);
+    if (length >= 2) file[length - 2] = 11; /* an uncertainty for the last entry, which was never measured */
+    unit = load(unit, length);
     live(unit, 5, 5, 5, 2, true);
     live(unit, 5, 5, 5, 2, false);
     answer(unit, 690, 690, 690, 276); /* the same point, over a divisor that is too large for a live call */

@@ -56,9 +56,8 @@ fn inspect(unit: Unit, slices: &mut Slices) -> Unit {
     a.unit
 }
 
-fn load(unit: Unit, path: &str, slices: &mut Slices) -> Unit {
-    let file = std::fs::read(path).unwrap_or_default();
-    let a = torskavel::load(unit, &file, &mut slices.corrections, &mut slices.uncertainties);
+fn load(unit: Unit, file: &[u8], slices: &mut Slices) -> Unit {
+    let a = torskavel::load(unit, file, &mut slices.corrections, &mut slices.uncertainties);
     let Unit { n1, n2, n3, .. } = a.unit;
     report(&format!("load {} bytes", file.len()), a.number, a.place, format!("block {n1} {n2} {n3}"));
     a.unit
@@ -94,11 +93,17 @@ fn main() {
     answer(unit, [5, 5, 5], 2, &slices);
     unit = build(unit, &[1, 5], &mut slices);
     unit = build(unit, &[1, 3, 2], &mut slices);
-    unit = load(unit, &path, &mut slices);
+    let mut file = std::fs::read(path).unwrap_or_default();
+    unit = load(unit, &file, &mut slices);
     // The second is on the far face of axis 2, which has 3 entries: 6 is 3 times 2. The third is past it.
     for point in [[5, 5, 5], [5, 6, 5], [5, 7, 5], [7, 5, 5]] {
         answer(unit, point, 2, &slices);
     }
+    // an uncertainty for the last entry, which was never measured
+    if let [.., low, _] = &mut file[..] {
+        *low = 11;
+    }
+    unit = load(unit, &file, &mut slices);
     live(unit, [5, 5, 5], 2, true, &slices);
     live(unit, [5, 5, 5], 2, false, &slices);
     // the same point, over a divisor that is too large for a live call

@@ -51,6 +51,7 @@ static struct torskavel_unit example(void) {
     corrections[1] = 20;
     corrections[18] = -30;
     corrections[23] = TORSKAVEL_NEVER_MEASURED;
+    uncertainties[23] = 0;
     return unit;
 }
 

@@ -13,10 +13,13 @@ static int32_t work[PLACES];
 static int16_t corrections[ENTRIES];
 static uint16_t uncertainties[ENTRIES];
 static uint8_t file[TORSKAVEL_MAX_FILE] = {16, 0, 16, 0, 16, 0};
+/* The last entry was never measured, and has an uncertainty. */
+static uint8_t uncertain_gap[TORSKAVEL_MAX_FILE] = {
+    16, 0, 16, 0, 16, 0, [6 + 2 * (ENTRIES - 1) + 1] = 0x80, [6 + 4 * ENTRIES - 2] = 1};
 
 static unsigned char stack[STACK] __attribute__((aligned(4096)));
 static struct torskavel_unit unit;
-static struct torskavel_unit_answer changed;
+static struct torskavel_unit_answer changed, refused;
 static struct torskavel_point_answer answered;
 static struct torskavel_live_point_answer live;
 
@@ -49,6 +52,11 @@ static void inspect(void) {
 
 static void load(void) {
     changed = torskavel_load(unit, file, sizeof file, corrections, ENTRIES, uncertainties, ENTRIES);
+}
+
+/* 8 and 16 are looked for, entry by entry, only where one of them applies. */
+static void load_refused(void) {
+    refused = torskavel_load(unit, uncertain_gap, sizeof uncertain_gap, corrections, ENTRIES, uncertainties, ENTRIES);
 }
 
 static void answer(void) {
@@ -88,6 +96,8 @@ static void measure(const char *name, void (*call)(void), size_t most) {
 static void *run(void *unused) {
     measure("empty_unit", empty_unit, TORSKAVEL_MAX_STACK_LOAD);
     measure("load", load, TORSKAVEL_MAX_STACK_LOAD);
+    measure("load_refused", load_refused, TORSKAVEL_MAX_STACK_LOAD);
+    EXPECT(refused.number == TORSKAVEL_REFUSED_UNCERTAIN_GAP && refused.place == ENTRIES - 1);
     measure("build", build, TORSKAVEL_MAX_STACK_BUILD);
     measure("inspect", inspect, TORSKAVEL_MAX_STACK_BUILD);
     measure("answer", answer, TORSKAVEL_MAX_STACK);

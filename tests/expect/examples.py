@@ -11,6 +11,7 @@ The evaluator has no unit without a net and no order by bytes, so 21 and 2 are t
 import math
 import struct
 import sys
+import tempfile
 from pathlib import Path
 
 sys.path.append(str(Path(__file__).resolve().parents[1]))
@@ -23,6 +24,15 @@ MIDDLE = (6, 6, 6)  # the place whose number a build shows
 
 def refused(number, place=0):
     return f"refused {number}, place {place}"
+
+
+def file_refused(file, sizes):
+    """Number and place where the evaluator refuses a file. A point outside is asked, so that 12 says it passes."""
+    with tempfile.NamedTemporaryFile() as lent:
+        lent.write(file)
+        lent.flush()
+        _, number, place = ask("point", 1, 1, 1, 1, *sizes, 0, 0, 0, 1, "--file", lent.name).split()
+    return None if number == "12" else (number, place)
 
 
 class Unit:
@@ -44,10 +54,11 @@ class Unit:
             answer = "multiplicities {} {} {} {}, number {} at {}".format(*v, number, MIDDLE)
         self.tell("build " + " ".join(map(str, order)), answer)
 
-    def load(self):
-        file = FIELD.read_bytes()
-        self.sizes = struct.unpack_from("<3H", file)
-        self.tell(f"load {len(file)} bytes", "block {} {} {}".format(*self.sizes))
+    def load(self, file):
+        sizes = struct.unpack_from("<3H", file)
+        refusal = file_refused(file, sizes)
+        self.sizes = self.sizes if refusal else sizes
+        self.tell(f"load {len(file)} bytes", refused(*refusal) if refusal else "block {} {} {}".format(*sizes))
 
     def inspect(self):
         v = self.multiplicities
@@ -103,11 +114,14 @@ def expected():
     unit.point(5, 5, 5)
     unit.build(1, 5)
     unit.build(1, 3, 2)
-    unit.load()
+    file = bytearray(FIELD.read_bytes())
+    unit.load(file)
     unit.point(5, 5, 5)
     unit.point(5, 6, 5)
     unit.point(5, 7, 5)
     unit.point(7, 5, 5)
+    file[-2] = 11  # the last entry's uncertainty
+    unit.load(file)
     unit.live(5, 5, 5)
     unit.live(5, 5, 5, with_uncertainty=False)
     unit.point(690, 690, 690, divisor=276)

@@ -12,6 +12,7 @@ from explaining.told import numbers, run, same, sections, stop
 
 PAGE = ROOT / "docs/HOW-A-FIGURE-COMES-ABOUT.md"
 FIELD = "examples/table.field"
+UNCERTAIN_GAPS = "examples/uncertain-gaps.field"
 ACTS = {"The fitter acts": "the fitter", "The surveyor acts": "the surveyor", "Firmware acts": "firmware"}
 # Numbers in the lists of refusals that are no limits of the library: bytes of sizes and text, powers, places.
 OTHERS = {0, 1, 2, 4, 6, 14, 37, 48, 49, 52, 2197}
@@ -22,8 +23,9 @@ def printed(command):
     program, *words = shlex.split(command)
     if program == "printf":
         return prints([words[0].replace("\\n", "\n").encode()])[0].splitlines()
-    same(command, "command", [program, words[0]], ["tools/explain/run", FIELD])
-    text, _ = run(ROOT / FIELD, *words[1:], status=None)
+    known = words[0] in (FIELD, UNCERTAIN_GAPS)
+    same(command, "command", (program, known), ("tools/explain/run", True))
+    text, _ = run(ROOT / words[0], *words[1:], status=None)
     return text.splitlines()
 
 

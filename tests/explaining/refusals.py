@@ -7,7 +7,7 @@ from explaining.faults import complained
 from explaining.scene import LARGEST, SEED, Scene, random_numbers
 from explaining.told import field, live, place, run, same, sections, stop
 
-NUMBERS = [*range(1, 16), 21, 22, 23]
+NUMBERS = [*range(1, 17), 21, 22, 23]
 CONCERNED = ("the fitter", "the surveyor", "firmware")
 REFUSED = 1  # the status
 
@@ -176,6 +176,7 @@ def asked(folder):
         2: "2: byte 24 of the order",
         8: "8: entry (0, 4, 0) ",
         13: "13: entry (0, 4, 0) was never measured",
+        16: "16: entry (0, 4, 0) is marked as never measured",
     }
     differs = "14: the net differs from the defined one, first at net place "
     right |= {14: differs + "(11, 1, 0)"}
@@ -185,15 +186,15 @@ def asked(folder):
     [(_, said)] = told("--refused 12", run(path, "132", "--refused", 12, 0)[0])
     inside = "axis {}: inside are the positions 2 to {}, both included: cells 2 to {}, the last with the far face"
     same("--refused 12", "axes", said[:-2], [inside.format(b, n, n - 1) for b, n in ((1, 6), (2, 5), (3, 4))])
-    for number in (8, 13):
+    for number in (8, 13, 16):
         text, _ = run(path, "132", "--refused", number, 120)
         begins("no entry", text, f"{number}: entry number 120, which this file does not have")
     begins("no net place", run(path, "132", "--refused", 14, 2197)[0], differs + "number 2197, which")
     begins("beside another", run(path, "9", "--refused", 21, 0, status=REFUSED)[0], "2: ", "21: ")
-    bad = [(number, 0) for number in (0, 16, 20, 24, -1, "x", 2**32)]
+    bad = [(number, 0) for number in (0, 17, 20, 24, -1, "x", 2**32)]
     for words in bad + [(13, "x"), (13, -1), (13,), (13, 0, 1, 1, 1, 1)]:
         complained(path, "132", "--refused", *words)
-    return len(NUMBERS) + 16
+    return len(NUMBERS) + 17
 
 
 def tried(folder):

@@ -20,7 +20,7 @@ class Scene:
         n = math.prod(sizes)
         self.corrections, self.uncertainties = numbers_of(n)
         for gap in gaps:
-            self.corrections[gap] = GAP
+            self.corrections[gap], self.uncertainties[gap] = GAP, 0
         path.write_bytes(field(sizes, self.corrections, self.uncertainties))
 
     def evaluated(self, point, divisor):

@@ -21,6 +21,7 @@ mod sums;
 mod svg;
 mod tables;
 mod text;
+mod uncertain_gaps;
 mod walk;
 
 use request::{Asked, Request};

@@ -49,6 +49,19 @@ pub fn bracketed<T: ToString>(place: &[T]) -> String {
     format!("({})", place.iter().map(T::to_string).collect::<Vec<_>>().join(", "))
 }
 
+/// The most entries of a list that is not wanted whole.
+const LISTED: usize = 12;
+
+/// Entries within a sentence; of a long list the first, unless all are wanted.
+pub fn listed(entries: &[String], all: bool) -> String {
+    let shown = if all { entries.len() } else { LISTED.min(entries.len()) };
+    let more = match entries.len() - shown {
+        0 => String::new(),
+        more => format!(" and {more} more"),
+    };
+    format!("{}{more}", entries[..shown].join(", "))
+}
+
 /// A name or an order as it may stand in a text or a page: no control characters, nor what is no character.
 pub fn shown(name: &OsStr) -> String {
     let printable = |c: char| !c.is_control() && !matches!(c, '\u{fffe}' | '\u{ffff}');

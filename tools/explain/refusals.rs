@@ -6,6 +6,7 @@ use crate::parts::{Part, bracketed, words};
 use crate::placing::Placing;
 use crate::request::Question;
 use crate::torskavel::{self, refused};
+use crate::uncertain_gaps;
 use crate::walk::{Outcome, Walk};
 
 const FITTER: &str = "the fitter";
@@ -23,7 +24,7 @@ fn words_of(wrong: impl Into<String>, concerns: &'static str, to_do: impl Into<S
 }
 
 pub fn is_one(number: u32) -> bool {
-    matches!(number, refused::ORDER_LENGTH..=refused::LIVE_DENOMINATOR | refused::NO_NET..=refused::SHARES)
+    matches!(number, refused::ORDER_LENGTH..=refused::UNCERTAIN_GAP | refused::NO_NET..=refused::SHARES)
 }
 
 /// An index of the table as its entry; a unit with another table may have named one that is not there.
@@ -111,6 +112,10 @@ fn of_file(walk: &Walk, number: u32, place: usize) -> Words {
             SURVEYOR,
             "send the file back: that uncertainty was written wrongly",
         ),
+        refused::UNCERTAIN_GAP => {
+            let wrong = uncertain_gaps::wrong(walk, place, &entry(walk, place));
+            words_of(wrong, SURVEYOR, uncertain_gaps::TO_DO)
+        }
         refused::NO_BLOCK => words_of("the unit has no table", FITTER, "load the field file"),
         _ => {
             let wants = walk
@@ -182,7 +187,7 @@ fn of_point(walk: &Walk, number: u32, place: usize) -> Words {
     }
 }
 
-fn tell(walk: &Walk, Refusal { number, place }: Refusal, parts: &mut Vec<Part>) {
+fn tell(walk: &Walk, Refusal { number, place }: Refusal, all: bool, parts: &mut Vec<Part>) {
     let Words { wrong, concerns, to_do } = match number {
         refused::ORDER_LENGTH | refused::ORDER_BYTE => of_order(walk, number, place),
         refused::MULTIPLICITIES | refused::NET_LENGTH | refused::NET_DIFFERS => of_net(walk, number, place),
@@ -195,30 +200,37 @@ fn tell(walk: &Walk, Refusal { number, place }: Refusal, parts: &mut Vec<Part>) 
     match number {
         refused::OUTSIDE => outside(walk, walk.placing.as_ref()).into_iter().for_each(&mut line),
         refused::LIVE_DENOMINATOR => line(divisors::LOOKED_AT.to_string()),
+        refused::UNCERTAIN_GAP => uncertain_gaps::beside(walk, place, all).into_iter().for_each(&mut line),
         _ => {}
     }
     line(format!("concerns {concerns}"));
     line(format!("to do: {to_do}"));
 }
 
-/// Every refusal of the walk: of the order, of the file, or of the point; or the one that was asked about.
+/// Every refusal of the walk: of the order, of the file, or of the point; or the one that was asked about, told
+/// once where order or file meet it too.
 pub fn of(walk: &Walk) -> Vec<Refusal> {
     let refused = [walk.net.as_ref().err(), walk.block.as_ref().err()].into_iter().flatten().copied();
     let mut refusals: Vec<_> = refused.collect();
     match (&walk.outcome, walk.question) {
-        (_, Question::Refusal { number, place }) => refusals.push(Refusal { number, place }),
+        (_, Question::Refusal { number, place }) => {
+            let asked = Refusal { number, place };
+            if !refusals.contains(&asked) {
+                refusals.push(asked);
+            }
+        }
         (Outcome::Refused(refusal), _) if refusals.is_empty() => refusals.push(*refusal),
         _ => {}
     }
     refusals
 }
 
-pub fn told(walk: &Walk, parts: &mut Vec<Part>) {
+pub fn told(walk: &Walk, all: bool, parts: &mut Vec<Part>) {
     let refusals = of(walk);
     if !refusals.is_empty() {
         parts.push(Part::Heading("Refused".to_string()));
     }
     for refusal in refusals {
-        tell(walk, refusal, parts);
+        tell(walk, refusal, all, parts);
     }
 }

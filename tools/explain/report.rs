@@ -2,7 +2,7 @@
 
 use crate::decimal::{decimal, rounded};
 use crate::library::{Block, Figure, Net};
-use crate::parts::{Part, bracketed, words};
+use crate::parts::{Part, bracketed, listed, words};
 use crate::placing::{Placing, Window, plain_reading};
 use crate::request::Question;
 use crate::sums::{Counted, LocalPlace, Sums, factorial};
@@ -11,8 +11,6 @@ use crate::{cell_picture, layers_picture, live, refusals, tables};
 
 /// The decimals of a position and of a figure in tenths of a micrometre.
 const DECIMALS: u32 = 3;
-/// The entries never measured that are listed without --all.
-const LISTED: usize = 12;
 
 fn heading(parts: &mut Vec<Part>, text: &str) {
     parts.push(Part::Heading(text.to_string()));
@@ -50,14 +48,8 @@ fn summary(walk: &Walk) -> Option<String> {
 }
 
 fn gaps(block: &Block, all: bool) -> String {
-    let gaps = block.gaps();
-    let shown = if all { gaps.len() } else { LISTED.min(gaps.len()) };
-    let list = gaps[..shown].iter().map(|entry| bracketed(entry)).collect::<Vec<_>>().join(", ");
-    let more = match gaps.len() - shown {
-        0 => String::new(),
-        more => format!(" and {more} more"),
-    };
-    format!("never measured: {list}{more}")
+    let gaps: Vec<_> = block.gaps().iter().map(|entry| bracketed(entry)).collect();
+    format!("never measured: {}", listed(&gaps, all))
 }
 
 fn file(walk: &Walk, all: bool, parts: &mut Vec<Part>) {
@@ -231,7 +223,7 @@ pub fn parts(walk: &Walk, all: bool) -> Vec<Part> {
         }
         outcome(walk, net, walk.placing.as_ref(), all, &mut parts);
     }
-    refusals::told(walk, &mut parts);
+    refusals::told(walk, all, &mut parts);
     live::told(walk, &mut parts);
     parts
 }

@@ -7,14 +7,14 @@ use std::path::PathBuf;
 
 pub const USAGE: &str = "\
 usage: explain FILE ORDER X Y Z D [--all] [--page OUT.html]
-       explain FILE ORDER --refused NUMBER PLACE [--page OUT.html]
+       explain FILE ORDER --refused NUMBER PLACE [--all] [--page OUT.html]
 
 Tells how the unit comes to its figure at the point X/D, Y/D, Z/D, with the table of a field file and the net
 of an order of repeats, written as digits: 132 is the factory's, '' is the order without a repeat. X, Y, Z and
 D are whole numbers from 0 to 4294967295.
 
   --all             also lists the local places whose weights multiply to 0, the entries of the window without
-                    a share, and every entry never measured
+                    a share, and every entry never measured or refused by 16
   --page OUT.html   writes a page with pictures, to look at, print or send, and not the text
   --refused NUMBER PLACE
                     tells what a refusal means that a unit with this file and this order gave
@@ -108,7 +108,7 @@ fn refusal((number, place): (OsString, OsString), rest: &[OsString]) -> Result<Q
         return Err("with --refused no point is wanted; explain --help".to_string());
     }
     let number = number.to_str().and_then(|word| word.parse().ok()).filter(|&n| crate::refusals::is_one(n));
-    let number = number.ok_or("--refused wants the number of a refusal: 1 to 15, 21, 22 or 23")?;
+    let number = number.ok_or("--refused wants the number of a refusal: 1 to 16, 21, 22 or 23")?;
     let place = place.to_str().and_then(|word| word.parse().ok());
     let place =
         place.ok_or("--refused wants the place as a whole number; it is 0 where the unit names none")?;

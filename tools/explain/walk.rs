@@ -7,6 +7,7 @@ use crate::placing::{Placing, Window};
 use crate::request::{Question, Request};
 use crate::sums::Sums;
 use crate::torskavel::{self, MAX_FILE, Unit};
+use crate::uncertain_gaps;
 
 pub struct Walk {
     /// The file's name, without its folders.
@@ -15,6 +16,8 @@ pub struct Walk {
     pub file_length: Option<usize>,
     /// The sizes that its first bytes name, within their limits or not.
     pub head: Option<[usize; 3]>,
+    /// The entries that 16 is about, by their index, with their uncertainties.
+    pub uncertain_gaps: Vec<(usize, u16)>,
     pub order: String,
     pub order_bytes: Vec<u8>,
     pub net: Result<Net, Refusal>,
@@ -53,6 +56,7 @@ impl Walk {
             file: shown(name),
             file_length: Some(bytes.len()).filter(|&length| length <= MAX_FILE),
             head: head(bytes),
+            uncertain_gaps: uncertain_gaps::found(bytes, head(bytes)),
             order: shown(&request.order),
             order_bytes,
             net,

@@ -6,34 +6,36 @@ use crate::torskavel::Unit;
 
 const HEADER: usize = 6;
 const LARGEST_UNCERTAINTY: u16 = 32767;
+/// As it is read, without a sign.
+const NEVER_MEASURED: u16 = -32768i16 as u16;
 
-/// The index of the first number above the largest uncertainty.
-type Find = fn(&[u8]) -> Option<usize>;
+/// Checks 8 and 16 of a file's corrections and uncertainties.
+type Check = fn(&[u8], &[u8]) -> Result<(), Refusal>;
 
 pub type Load = fn(Unit, &[u8], &mut [i16], &mut [u16]) -> Result<Unit, Refusal>;
 
-/// Number by number. Checks 5, 6, 7, 8, 9.
+/// Entry by entry. Checks 5, 6, 7, 8, 16, 9.
 pub fn load(
     unit: Unit,
     file: &[u8],
     corrections: &mut [i16],
     uncertainties: &mut [u16],
 ) -> Result<Unit, Refusal> {
-    load_by(first_above, unit, file, corrections, uncertainties)
+    load_by(entry_by_entry, unit, file, corrections, uncertainties)
 }
 
-/// The search goes over all numbers at once, and for the index only where there is one.
+/// One look goes over all entries at once, and entry by entry only where one of them is refused.
 pub fn load_tuned(
     unit: Unit,
     file: &[u8],
     corrections: &mut [i16],
     uncertainties: &mut [u16],
 ) -> Result<Unit, Refusal> {
-    load_by(first_above_if_any, unit, file, corrections, uncertainties)
+    load_by(all_at_once, unit, file, corrections, uncertainties)
 }
 
 fn load_by(
-    find: Find,
+    check: Check,
     unit: Unit,
     file: &[u8],
     corrections: &mut [i16],
@@ -47,9 +49,7 @@ fn load_by(
         return refuse(7);
     }
     let (first, second) = numbers.split_at(2 * n);
-    if let Some(index) = find(second) {
-        return refuse_at(8, index);
-    }
+    check(first, second)?;
     if corrections.len() < n || uncertainties.len() < n {
         return refuse(9);
     }
@@ -67,11 +67,27 @@ fn words(bytes: &[u8]) -> impl Iterator<Item = u16> {
     bytes.as_chunks().0.iter().map(|&word| u16::from_le_bytes(word))
 }
 
-fn first_above(bytes: &[u8]) -> Option<usize> {
-    words(bytes).position(|word| word > LARGEST_UNCERTAINTY)
+fn entry_by_entry(corrections: &[u8], uncertainties: &[u8]) -> Result<(), Refusal> {
+    if let Some(index) = words(uncertainties).position(|uncertainty| uncertainty > LARGEST_UNCERTAINTY) {
+        return refuse_at(8, index);
+    }
+    let mut entries = words(corrections).zip(words(uncertainties));
+    match entries.position(|(correction, uncertainty)| correction == NEVER_MEASURED && uncertainty != 0) {
+        Some(index) => refuse_at(16, index),
+        None => Ok(()),
+    }
 }
 
-fn first_above_if_any(bytes: &[u8]) -> Option<usize> {
-    let bits = words(bytes).fold(0, |bits, word| bits | word);
-    if bits > LARGEST_UNCERTAINTY { first_above(bytes) } else { None }
+/// Joins the bits of all uncertainties, and those of the uncertainties of gaps.
+fn all_at_once(corrections: &[u8], uncertainties: &[u8]) -> Result<(), Refusal> {
+    let (mut all, mut of_gaps) = (0, 0);
+    for (correction, uncertainty) in words(corrections).zip(words(uncertainties)) {
+        all |= uncertainty;
+        of_gaps |= if correction == NEVER_MEASURED { uncertainty } else { 0 };
+    }
+    if all > LARGEST_UNCERTAINTY || of_gaps != 0 {
+        entry_by_entry(corrections, uncertainties)
+    } else {
+        Ok(())
+    }
 }

@@ -8,13 +8,13 @@ use mir.Syntax.{w16}
 use mir.Val.{SFits}
 use Rattle.sums.proofs.Places.{box-le, index-in}
 use Rattle.sums.specs.Search.{at, nowhere}
+use Rattle.unit.specs.Gaps.{isGap}
 use Rattle.blending.proofs.Machine.{measured-size}
 use Rattle.blending.proofs.SoFar.{NoneYet, Reached, at-end, found-here, none-next, none-yet, passed}
 use Rattle.blending.proofs.SoFar.{passed-next, reached-next, so-far-all, so-far-next, so-far-none}
 use Rattle.blending.proofs.SoFar.{soFar}
 use Rattle.blending.proofs.Sweep.{bounded-add, bounded-entry, bounded-none, small-add, small-entry}
 use Rattle.blending.proofs.Sweep.{small-more, small-none}
-use Rattle.blending.specs.Gaps.{isGap}
 use Rattle.blending.specs.Inner.Frame.{FrameLimits, entryAt, shareAt}
 use Rattle.blending.specs.Inner.Search.{entryGap, windowGaps}
 use Rattle.blending.specs.Inner.Sums.{Bounded, Small, Sums, addSums, noSums}

@@ -1,17 +1,13 @@
--- Gaps, and the lowest one of a window: Sections 8.1 and 10.5.
-use mathlib.Core.Bool.{Bool, _&&_, false}
+-- The lowest gap of a window: Section 10.5.
+use mathlib.Core.Bool.{Bool, _&&_}
 use Prim.Native.Nat.{_%_, _+_, _-_, _/_, ℕ}
-use lib.Dec.{eqb, leb}
-use lib.IntN.{negsuc, pos, ℤ}
+use lib.Dec.{leb}
+use lib.IntN.{ℤ}
 use Rattle.sums.specs.Search.{Found, first}
 use Rattle.spline.specs.Box.{places}
 use Rattle.spline.specs.Multiplicities.{Multiplicities, extent}
 use Rattle.spline.specs.Place.{Axis, a1, a2, a3}
-
--- Section 8.1: a gap is a correction of −32768
-abbrev pub isGap : ℤ → Bool
-isGap (pos n) = false
-isGap (negsuc n) = eqb n 32767
+use Rattle.unit.specs.Gaps.{isGap}
 
 -- Section 10.2: in the window on an axis
 abbrev pub inWindowOn : ℕ → ℕ → ℕ → Bool

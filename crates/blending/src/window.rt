@@ -4,7 +4,6 @@ ghost use Prim.Native.Nat.{ℕ, _*_, _<_, _≤_};
 ghost use lib.ListN.{length};
 ghost use Rattle.sums.specs.Search.{nowhere};
 ghost use Rattle.blending.specs.Blend.{numberAt, signedAt};
-ghost use Rattle.blending.specs.Gaps.{isGap};
 ghost use Rattle.blending.specs.LocalPlaces.{localAt};
 ghost use Rattle.blending.specs.Inner.Frame.{FrameLimits, entryAt, offsetOf, shareAt};
 ghost use Rattle.blending.specs.Inner.Sums.{Bounded, Room, noSums, sumsIn};
@@ -87,13 +86,6 @@ pub(crate) fn offsets_of(f: Frame) -> [usize; 220]
     offsets
 }
 
-// Whether a correction means 'never measured'.
-fn is_gap(correction: i16) -> bool
-    ensures { λ r. ⌜ r ≡ isGap correction ⌝ }
-{
-    correction == -32768
-}
-
 // Adds every entry of the window to sums that start at 0, up to the first gap.
 pub(crate) fn add_window(
     net: &[u32],
@@ -127,7 +119,7 @@ pub(crate) fn add_window(
     while at.z < e3 {
         let entry = entry_at(f, at);
         let correction = corrections[entry];
-        if is_gap(correction) {
+        if unit::is_gap(correction) {
             return Gap::At(entry);
         }
         entry::add_entry(

@@ -20,6 +20,7 @@ use Rattle.spline.specs.Box.{places}
 use Rattle.spline.specs.Multiplicities.{Multiplicities, degree, extent}
 use Rattle.spline.specs.Place.{Axis, a1, a2, a3}
 use Rattle.unit.proofs.Limits.{net-limits}
+use Rattle.unit.specs.Gaps.{isGap}
 use Rattle.unit.specs.Unit.{netOf}
 use Rattle.unit.specs.declared.Checked.the-variants.{Passed}
 use Rattle.unit.specs.declared.Unit.{Unit}
@@ -35,7 +36,7 @@ use Rattle.blending.proofs.Windows.{entry-in}
 use Rattle.blending.specs.Blend.{correctionAt, numberAt, uncertaintyAt}
 use Rattle.point.specs.Answer.{pointAnswer}
 use Rattle.blending.specs.Blending.{blendedCorrection, localPlace, share, shareSum}
-use Rattle.blending.specs.Gaps.{firstGap, inWindowOn, isGap, windowGap}
+use Rattle.blending.specs.Gaps.{firstGap, inWindowOn, windowGap}
 use Rattle.point.specs.Bernstein.{shiftNumerator, uncertaintyNumerator}
 use Rattle.point.specs.declared.PointAnswer.{PointAnswer}
 use Rattle.point.specs.declared.PointAnswer.the-variants.{Value}

@@ -11,6 +11,9 @@ use Rattle.spline.specs.Multiplicities.{allowed}
 use Rattle.spline.specs.Rule.{lowerAbove}
 use Rattle.unit.specs.Unit.{hasBlock, hasNet, sizeAllowed, sizesAllowed}
 use lib.Ieee.{ofBits, ofInt}
+use Rattle.field.specs.Encoding.{bits, encoding, littleEndian}
+use Rattle.field.specs.File.{correction, signed, uncertainty, word}
+use Rattle.field.specs.Load.{layoutChecks, loadChecks}
 use Rattle.placing.specs.Place.{divisorChecks, insideCheck, lentChecks, liveCheck, pointChecks, unitChecks}
 use Rattle.placing.specs.Placing.{inside, located, placing, rankAxes, withThird}
 use Rattle.blending.specs.Blend.{windowChecks}
@@ -21,7 +24,7 @@ use Rattle.blending.specs.Gaps.{firstGap, windowGap}
 use Rattle.point.specs.Bernstein.{shiftNumerator, uncertaintyNumerator}
 use Rattle.live.specs.Answer.{liveAnswer, liveChecks}
 use Rattle.claims.specs.Demands.{AllFigures}
-use Rattle.claims.specs.Figures.{AllHold, liveFigures, pointFigures}
+use Rattle.claims.specs.Figures.{AllHold, gapFigures, liveFigures, pointFigures}
 
 pub all-figures : AllFigures
 unfolding sumTo sumZ sumBox sumBoxZ factorial multinomial sumSimplex sumSimplexZ bernstein allTo first
@@ -29,11 +32,14 @@ unfolding sumTo sumZ sumBox sumBoxZ factorial multinomial sumSimplex sumSimplexZ
     located inside withThird rankAxes placing localPlace share shareSum blendedCorrection blendedUncertainty
     shiftNumerator uncertaintyNumerator allSimplex addsUp windowGap firstGap unitChecks divisorChecks
     insideCheck pointChecks lentChecks windowChecks valueAnswer pointAnswer liveCheck liveChecks liveAnswer
-    ofInt ofBits
+    littleEndian bits encoding word signed correction uncertainty layoutChecks loadChecks ofInt ofBits
 all-figures = (refl, ((refl, refl, refl), (refl, (refl, (refl, (refl, (refl, (refl, points))))))))
   where
     lives : AllHold liveFigures
     lives = (refl, (refl, ((refl, refl), (refl, (refl, (refl, (refl, (refl, tt))))))))
 
+    gaps : AllHold gapFigures
+    gaps = (refl, (refl, (refl, (refl, (refl, lives)))))
+
     points : AllHold pointFigures
-    points = (refl, (refl, (refl, (refl, (refl, (refl, lives))))))
+    points = (refl, (refl, (refl, (refl, (refl, (refl, gaps))))))

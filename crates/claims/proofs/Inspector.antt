@@ -19,16 +19,16 @@ use Rattle.spline.specs.Box.{netList, places, width}
 use Rattle.spline.specs.Defined.{defined}
 use Rattle.spline.specs.Multiplicities.{HasRepeat, Multiplicities, allowed}
 use Rattle.spline.specs.Place.{Direction}
-use Rattle.unit.proofs.Checks.{at-passed, if-passed, or-false, stopped-passed, unit-changed, unit-refused}
+use Rattle.unit.proofs.Checks.{at-passed, if-passed, or-false, unit-changed, unit-refused}
 use Rattle.unit.proofs.Limits.{allowed-limits}
-use Rattle.unit.specs.Checks.{passedOr, refusal, refuseAt, refuseIf}
+use Rattle.unit.specs.Checks.{passedOr, refusal, refuseAt}
 use Rattle.unit.specs.Unit.{withNet}
 use Rattle.unit.specs.declared.Checked.{Checked}
 use Rattle.unit.specs.declared.Checked.the-variants.{Passed, Stopped}
-use Rattle.unit.specs.declared.Refusal.{Refusal}
 use Rattle.unit.specs.declared.UnitAnswer.the-variants.{Changed, Refused}
 use Rattle.inspection.specs.Inspect.{definedNumber, differsFrom, inspectAnswer, inspectChecks}
 use Rattle.claims.proofs.Plain.{plain-defined, repeat-or-none}
+use Rattle.claims.proofs.Stopped.{at-stopped, if-other}
 use Rattle.claims.specs.Demands.{Differing, Inspector, Lowest}
 use Rattle.claims.specs.Nets.{HoldsDefined, LowestDifference, RightNumbers}
 
@@ -102,20 +102,6 @@ module _ (v : Multiplicities) (net : List ℕ) where
       }
 
 -- ---- the checks
-
--- a check that is not of the refusal's number is not the one that stopped
-if-other : (k m i : ℕ) (applies : Bool) (rest : Checked) → (k ≡ m → ⊥)
-    → refuseIf k applies rest ≡ Stopped (refusal m i) → rest ≡ Stopped (refusal m i)
-if-other k m i true rest other h =
-    let e : refusal k 0 ≡ refusal m i = cc in
-    absurd (other (ap (λ (r : Refusal). r .number) e))
-if-other k m i false rest other h = h
-
-at-stopped : (m i : ℕ) (found : Found) → refuseAt m found Passed ≡ Stopped (refusal m i) → found ≡ at i
-at-stopped m i nowhere h = stopped-passed (refusal m i) (sym h)
-at-stopped m i (at k) h =
-    let e : refusal m k ≡ refusal m i = cc in
-    ap (λ (r : Refusal). at (r .place)) e
 
 module _ (v : Multiplicities) (net : List ℕ) (definedLength workLength : ℕ) where
   abbrev box : ℕ

@@ -2,6 +2,7 @@ pub mod Bytes
 pub mod Orders
 pub mod Rule
 pub mod Plain
+pub mod Stopped
 pub mod Inspector
 pub mod OneDirection
 pub mod Held
@@ -16,3 +17,5 @@ pub mod NumeratorSizes
 pub mod Live
 pub mod LiveExact
 pub mod Unchanged
+pub mod Loads
+pub mod GapsUncounted

@@ -79,7 +79,7 @@ module _ (u : Unit) (net : List ℕ) (corrections : List ℤ) (uncertainties : L
       windowChecks (netOf u) (sizes u) (numberAt net) (correctionAt (sizes u) corrections)
       (placing u x y z D)
 
-  abbrev exact : Checked
+  abbrev pub exact : Checked
   exact = andThen lent (andThen (andThen divisor inside) window)
 
   abbrev pub live : Checked
@@ -127,7 +127,7 @@ module _ (u : Unit) (net : List ℕ) (corrections : List ℤ) (uncertainties : L
     pub window-passed : window ≡ Passed
 
   -- an exact call that goes through has passed all checks but 15
-  exact-passes : exact ≡ Passed → Passes
+  pub exact-passes : exact ≡ Passed → Passes
   exact-passes h =
       let l = then-passed lent _ h in
       let p = then-passed (andThen divisor inside) window (l .1) in

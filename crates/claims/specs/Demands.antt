@@ -1,7 +1,7 @@
 -- The demands on the library, each as one closed statement; a law in `proofs/` is of exactly this type. They
 -- speak of the definitions that contracts cite: what a call answers, and what it leaves in the slices that
 -- it was lent. docs/ARCHITECTURE.md lists the demands, docs/SPECIFICATION.md, Section 14, the statements.
-use mathlib.Core.Bool.{true}
+use mathlib.Core.Bool.{false, true}
 use mathlib.Core.List.{List, map}
 use mathlib.Core.Logic.{_↔_}
 use mathlib.Core.Path.{_≡_}
@@ -40,7 +40,7 @@ use Rattle.claims.specs.Figures.{AllHold, figures}
 use Rattle.claims.specs.Nets.{BuildsDefined, HoldsDefined, LowestDifference, ObeysIn, RightNumbers}
 use Rattle.claims.specs.Nets.{countByte}
 use Rattle.claims.specs.Points.{BuiltOrPassed, Constant, CoordinateInside}
-use Rattle.claims.specs.Refusals.{Met, listed}
+use Rattle.claims.specs.Refusals.{Met, listed, speaksOfPlace}
 
 -- ---- demand 1
 
@@ -52,6 +52,10 @@ Numbers = (r : Refusal) → Met r → listed (r .number) ≡ true
 -- Section 14.1: so no refusal has the number 0.
 abbrev pub NotZero : Type 0
 NotZero = (r : Refusal) → Met r → r .number ≡ 0 → ⊥
+
+-- Section 14.1: only 2, 8, 13, 14 and 16 speak of a place; with every other number it is 0.
+abbrev pub NoPlace : Type 0
+NoPlace = (r : Refusal) → Met r → speaksOfPlace (r .number) ≡ false → r .place ≡ 0
 
 -- Section 14.1, the same at the C interface: the number that a caller looks at is 0 exactly where the call
 -- was not refused, whatever bytes the record that it handed in holds.

@@ -14,7 +14,10 @@ use Rattle.unit.specs.Checks.{refusal}
 use Rattle.unit.specs.Unit.{netOf}
 use Rattle.unit.specs.declared.Checked.{Checked}
 use Rattle.unit.specs.declared.Checked.the-variants.{Passed, Stopped}
+use Rattle.unit.specs.declared.Refusal.{Refusal}
 use Rattle.unit.specs.declared.Unit.{Unit}
+use Rattle.field.specs.Encoding.{encoding}
+use Rattle.field.specs.Load.{loadChecks}
 use Rattle.placing.specs.Place.{divisorChecks, liveCheck, pointChecks}
 use Rattle.point.specs.Answer.{pointAnswer}
 use Rattle.point.specs.declared.PointAnswer.{PointAnswer}
@@ -47,11 +50,14 @@ pub data Figure : Type 0 where
   -- the simple net and a block of 2, 2, 2 with these corrections and all uncertainties 5: a point and a
   -- divisor, and N, U and the denominator
   point : List ℤ → ℕ → ℕ → ℕ → ℕ → ℤ → ℕ → ℕ → Figure
-  -- the same net and block: a point and a divisor, and the number of the refusal, whose place is 0
-  refused : List ℤ → ℕ → ℕ → ℕ → ℕ → ℕ → Figure
+  -- the same net, and a block of 2, 2, 2 with these corrections and uncertainties: a point and a divisor, and
+  -- the refusal
+  refused : List ℤ → List ℕ → ℕ → ℕ → ℕ → ℕ → Refusal → Figure
+  -- the file of such a block, loaded into slices of 8: which check applies, if any
+  load : List ℤ → List ℕ → Checked → Figure
   -- a unit and a divisor that none of 10, 11, 15 refuses
   liveDivisor : Unit → ℕ → Figure
-  -- the same net and block: a point and a divisor, and the bits of N and U in a live call
+  -- the net and block of `point`: a point and a divisor, and the bits of N and U in a live call
   live : List ℤ → ℕ → ℕ → ℕ → ℕ → ℕ → ℕ → Figure
   -- a unit of one entry, and a net slice of so many zeros: a divisor at the point 0, 0, 0, and the number of
   -- the refusal of a live call, whose place is 0
@@ -64,12 +70,12 @@ simpleNumbers = netList (width (multiplicities 1 1 1 1)) simple
 abbrev pub eightFives : List ℕ
 eightFives = 5 ∷ 5 ∷ 5 ∷ 5 ∷ 5 ∷ 5 ∷ 5 ∷ 5 ∷ []
 
--- what the point call answers for these
-abbrev pub smallAnswer : List ℤ → ℕ → ℕ → ℕ → ℕ → PointAnswer
-smallAnswer corrections x y z D =
-    pointAnswer (unitWith 1 1 1 1 2 2 2) simpleNumbers corrections eightFives x y z D
+-- what the point call answers over such a block
+abbrev pub smallAnswer : List ℤ → List ℕ → ℕ → ℕ → ℕ → ℕ → PointAnswer
+smallAnswer corrections uncertainties x y z D =
+    pointAnswer (unitWith 1 1 1 1 2 2 2) simpleNumbers corrections uncertainties x y z D
 
--- what the live call does, with the uncertainty
+-- what the live call does where all uncertainties are 5, with the uncertainty
 abbrev pub smallLive : List ℤ → ℕ → ℕ → ℕ → ℕ → LiveAnswer
 smallLive corrections x y z D =
     liveAnswer (unitWith 1 1 1 1 2 2 2) simpleNumbers corrections eightFives x y z D true
@@ -83,8 +89,12 @@ Holds (box order w1 w2 w3) =
     × (width (orderMultiplicities order) a3 ≡ w3)
 Holds (divisor u x y z D checked) = pointChecks u x y z D ≡ checked
 Holds (point corrections x y z D N U d) =
-    smallAnswer corrections x y z D ≡ Value (record { numerator = N; uncertainty = U; denominator = d })
-Holds (refused corrections x y z D n) = smallAnswer corrections x y z D ≡ Refused (refusal n 0)
+    smallAnswer corrections eightFives x y z D
+    ≡ Value (record { numerator = N; uncertainty = U; denominator = d })
+Holds (refused corrections uncertainties x y z D r) =
+    smallAnswer corrections uncertainties x y z D ≡ Refused r
+Holds (load corrections uncertainties checked) =
+    loadChecks (encoding 2 2 2 corrections uncertainties) 8 8 ≡ checked
 Holds (liveDivisor u D) = (divisorChecks (netOf u) D ≡ Passed) × (liveCheck (netOf u) D ≡ Passed)
 Holds (live corrections x y z D N U) =
     smallLive corrections x y z D
@@ -100,6 +110,14 @@ AllHold (f ∷ fs) = Holds f × AllHold fs
 abbrev pub twoEntries : List ℤ
 twoEntries = pos 100 ∷ negsuc 39 ∷ pos 0 ∷ pos 0 ∷ pos 0 ∷ pos 0 ∷ pos 0 ∷ pos 0 ∷ []
 
+-- the same with a gap at (1,0,0)
+abbrev pub oneGap : List ℤ
+oneGap = pos 100 ∷ negsuc 32767 ∷ pos 0 ∷ pos 0 ∷ pos 0 ∷ pos 0 ∷ pos 0 ∷ pos 0 ∷ []
+
+-- 0 at (1,0,0), 5 elsewhere
+abbrev pub fivesButGap : List ℕ
+fivesButGap = 5 ∷ 0 ∷ 5 ∷ 5 ∷ 5 ∷ 5 ∷ 5 ∷ 5 ∷ []
+
 -- of live calls: −40 and 5, 0 and 5; then degree 5 and degree 3, each at its largest divisor, where 12
 -- applies, and at one more, where 15 comes before it; and degree 5 where 11 comes before both
 abbrev pub liveFigures : List Figure
@@ -114,8 +132,19 @@ liveFigures =
     ∷ liveRefused (unitWith 2 2 1 1 1 1 1) 700 2841 15
     ∷ []
 
--- of points, then of live calls; the divisors of degree 5 are tried on a unit with a block of 4, 4, 4, at a
--- point of the one cell that is inside
+-- of a gap: its point meets 13, with or without an uncertainty there; its file is loaded without one, else it
+-- meets 16, or 8 where a later entry is over the limit
+abbrev pub gapFigures : List Figure
+gapFigures =
+    refused oneGap fivesButGap 1 1 1 1 (refusal 13 1)
+    ∷ refused oneGap eightFives 1 1 1 1 (refusal 13 1)
+    ∷ load oneGap fivesButGap Passed
+    ∷ load oneGap eightFives (Stopped (refusal 16 1))
+    ∷ load oneGap (5 ∷ 5 ∷ 5 ∷ 5 ∷ 5 ∷ 5 ∷ 5 ∷ 40000 ∷ []) (Stopped (refusal 8 7))
+    ∷ liveFigures
+
+-- of points, then of gaps and live calls; the divisors of degree 5 are tried on a unit with a block of
+-- 4, 4, 4, at a point of the one cell that is inside
 abbrev pub pointFigures : List Figure
 pointFigures =
     divisor (unitWith 2 2 2 2 4 4 4) 891 891 891 297 Passed
@@ -123,10 +152,10 @@ pointFigures =
     ∷ point twoEntries 1 1 1 1 (pos 100) 5 1
     ∷ point twoEntries 3 2 2 2 (pos 60) 10 2
     ∷ point twoEntries 2 1 1 1 (negsuc 39) 5 1
-    ∷ refused twoEntries 0 1 1 1 12
-    ∷ liveFigures
+    ∷ refused twoEntries eightFives 0 1 1 1 (refusal 12 0)
+    ∷ gapFigures
 
--- of nets, then of points and live calls
+-- of nets, then of points, gaps and live calls
 abbrev pub figures : List Figure
 figures =
     number [] 1 1 1 1

@@ -4,3 +4,4 @@ pub mod Refusals
 pub mod Figures
 pub mod Demands
 pub mod Live
+pub mod Loads

@@ -6,11 +6,11 @@ use Prim.Native.Nat.{_*_, _-_, _<_, _≤_, ℕ}
 use lib.IntN.{pos, ℤ}
 use lib.ListN.{getD, length}
 use Rattle.spline.specs.Multiplicities.{Multiplicities, orderMultiplicities}
+use Rattle.unit.specs.Gaps.{isGap}
 use Rattle.unit.specs.declared.Checked.the-variants.{Passed}
 use Rattle.net.specs.Build.{buildNet}
 use Rattle.net.specs.Order.{buildChecks}
 use Rattle.inspection.specs.Inspect.{inspectChecks}
-use Rattle.blending.specs.Gaps.{isGap}
 
 -- Section 14.5: the multiplicities and the numbers of a net that was built or passed, the net slice after a
 -- build or at an inspection that was not refused.

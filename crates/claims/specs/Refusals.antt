@@ -1,9 +1,10 @@
--- What the statements on refusals cite, the listed numbers and the refusals that calls meet: Section 14.1.
+-- What the statements on refusals cite: the listed numbers, those with a place, and the refusals that calls
+-- meet. Section 14.1.
 use mathlib.Core.Bool.{Bool, _&&_, _||_}
 use mathlib.Core.List.{List}
 use mathlib.Core.Path.{_≡_}
 use Prim.Native.Nat.{ℕ}
-use lib.Dec.{leb}
+use lib.Dec.{eqb, leb}
 use lib.IntN.{ℤ}
 use Rattle.spline.specs.Multiplicities.{Multiplicities}
 use Rattle.unit.specs.declared.Refusal.{Refusal}
@@ -20,9 +21,13 @@ use Rattle.placing.specs.declared.PlacingAnswer.the-variants as placings
 use Rattle.point.specs.declared.PointAnswer.the-variants as points
 use Rattle.unit.specs.declared.UnitAnswer.the-variants as units
 
--- Section 5.3: the numbers of refusals, 1 to 15 and 21 to 23
+-- Section 5.3: the numbers of refusals, 1 to 16 and 21 to 23
 abbrev pub listed : ℕ → Bool
-listed n = leb 1 n && leb n 15 || leb 21 n && leb n 23
+listed n = leb 1 n && leb n 16 || leb 21 n && leb n 23
+
+-- Section 5.3: those that speak of a place
+abbrev pub speaksOfPlace : ℕ → Bool
+speaksOfPlace n = eqb n 2 || eqb n 8 || eqb n 13 || eqb n 14 || eqb n 16
 
 -- Section 14.1: a call, on whatever it was handed, answered the refusal r
 pub data Met (r : Refusal) : Type 0 where

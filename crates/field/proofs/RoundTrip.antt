@@ -1,4 +1,5 @@
 -- A file that is the encoding of sizes and entries within limits is loaded as exactly these.
+use mathlib.Core.Bool.{false}
 use mathlib.Core.List.{List, [], _++_, _∷_, map}
 use mathlib.Core.Logic.{⊎-elim}
 use mathlib.Core.Path.{_∙_, _≡_, ap, refl, sym}
@@ -12,7 +13,9 @@ use lib.Seq.{getD-append-add}
 use Rattle.sums.proofs.Fill.{list-is-tabulate, tabulate-cong}
 use Rattle.sums.specs.Fill.{filled}
 use Rattle.sums.specs.Search.{at}
+use Rattle.unit.proofs.Gaps.{certain}
 use Rattle.unit.proofs.Limits.{BlockLimits, sizes-limits}
+use Rattle.unit.specs.Gaps.{uncertainGap}
 use Rattle.unit.specs.Unit.{withBlock}
 use Rattle.unit.specs.declared.Checked.the-variants.{Passed}
 use Rattle.unit.specs.declared.Unit.{Unit}
@@ -117,6 +120,11 @@ module _ (n1 n2 n3 : ℕ) (corrections : List ℤ) (uncertainties : List ℕ)
       ∙ entry-is (length coded + i)
       ∙ getD-append-add coded uncertainties i 0
 
+  certain-is : (i : ℕ) → i < n → uncertainGap (correction file i) (uncertainty file i) ≡ false
+  certain-is i h =
+      rw (correction-is i h, uncertainty-is i)
+      (certain (getD corrections i (pos 0)) (getD uncertainties i 0) (l .gaps i h))
+
   -- it is a list of bytes
 
   corrections-below : (i : ℕ) → i < n → getD entries i 0 < 65536
@@ -162,6 +170,7 @@ module _ (n1 n2 n3 : ℕ) (corrections : List ℤ) (uncertainties : List ℕ)
             exact = length-is ∙ ap fileLength (sym count-is);
           };
           limited = λ i h. rw (uncertainty-is i) (l .range2 i (rw count-is at h));
+          certain = λ i h. certain-is i (rw count-is at h);
           room1 = rw count-is room1;
           room2 = rw count-is room2;
         })

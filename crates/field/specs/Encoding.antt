@@ -6,6 +6,7 @@ use Prim.Native.Nat.{ℕ, suc, _*_, _-_, _/_, _%_, _≤_, _<_}
 use lib.IntN.{ℤ, pos, negsuc}
 use lib.ListN.{length, getD}
 use lib.Signed.{mag}
+use Rattle.unit.specs.Gaps.{isGap}
 use Rattle.unit.specs.Unit.{sizesAllowed}
 
 -- Section 8.2: two bytes for each 16-bit number, the low one first
@@ -24,10 +25,12 @@ encoding n1 n2 n3 corrections uncertainties =
     littleEndian (n1 ∷ n2 ∷ n3 ∷ map bits corrections ++ uncertainties)
 
 -- Sections 4.3, 8.1 to 8.3: allowed sizes, n entries in each list, corrections of 16 bits (`mag` of −(k + 1)
--- is k) and uncertainties that 8 does not refuse
+-- is k), uncertainties that 8 does not refuse, and none at a gap
 pub record WithinLimits (n1 n2 n3 : ℕ) (corrections : List ℤ) (uncertainties : List ℕ) : Type 0 where
   pub sizes : sizesAllowed n1 n2 n3 ≡ true
   pub count1 : length corrections ≡ n1 * n2 * n3
   pub count2 : length uncertainties ≡ n1 * n2 * n3
   pub range1 : (i : ℕ) → i < n1 * n2 * n3 → mag (getD corrections i (pos 0)) < 32768
   pub range2 : (i : ℕ) → i < n1 * n2 * n3 → getD uncertainties i 0 ≤ 32767
+  pub gaps : (i : ℕ) → i < n1 * n2 * n3
+      → isGap (getD corrections i (pos 0)) ≡ true → getD uncertainties i 0 ≡ 0

@@ -1,3 +1,4 @@
 pub mod File
 pub mod Load
 pub mod Encoding
+pub mod Inner

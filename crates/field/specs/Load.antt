@@ -8,6 +8,7 @@ use lib.ListN.{length}
 use Rattle.sums.specs.Fill.{filled}
 use Rattle.sums.specs.Search.{first}
 use Rattle.unit.specs.Checks.{andThen, blockRoomCheck, passedOr, refuseAt, refuseIf}
+use Rattle.unit.specs.Gaps.{uncertainGap}
 use Rattle.unit.specs.Unit.{sizesAllowed, withBlock}
 use Rattle.unit.specs.declared.Checked.{Checked}
 use Rattle.unit.specs.declared.Checked.the-variants.{Passed}
@@ -28,12 +29,18 @@ layoutChecks file =
 abbrev pub limitCheck : ℕ → (ℕ → ℕ) → Checked
 limitCheck n uncertaintyOf = refuseAt 8 (first n (λ i. ltb 32767 (uncertaintyOf i))) Passed
 
--- Section 5.4: the checks 5 to 9 in this order, for slices of these lengths
+-- Section 8.3: 16, at the first entry that is a gap and has an uncertainty
+abbrev pub gapCheck : ℕ → (ℕ → ℤ) → (ℕ → ℕ) → Checked
+gapCheck n correctionOf uncertaintyOf =
+    refuseAt 16 (first n (λ i. uncertainGap (correctionOf i) (uncertaintyOf i))) Passed
+
+-- Section 5.4: the checks 5, 6, 7, 8, 16, 9 in this order, for slices of these lengths
 unfoldable pub loadChecks : List ℕ → ℕ → ℕ → Checked
 loadChecks file correctionsLength uncertaintiesLength =
     andThen (layoutChecks file)
     (andThen (limitCheck (entryCount file) (uncertainty file))
-    (blockRoomCheck (entryCount file) correctionsLength uncertaintiesLength))
+    (andThen (gapCheck (entryCount file) (correction file) (uncertainty file))
+    (blockRoomCheck (entryCount file) correctionsLength uncertaintiesLength)))
 
 -- Section 8.4: the answer
 unfoldable pub loadAnswer : Unit → List ℕ → List ℤ → List ℕ → UnitAnswer

@@ -35,6 +35,11 @@ pub then-passed : (start rest : Checked) → andThen start rest ≡ Passed → (
 then-passed Passed rest h = (refl, h)
 then-passed (Stopped r) rest h = stopped-passed r h
 
+-- three chains in a row, however they are joined
+pub in-order : (a b c : Checked) → andThen (andThen a b) c ≡ andThen a (andThen b c)
+in-order Passed b c = refl
+in-order (Stopped r) b c = refl
+
 -- where no test of two applies, neither does
 pub or-false : (a b : Bool) → (a || b) ≡ false → (a ≡ false) × (b ≡ false)
 or-false true b h = let z : _≡_ {A = ℕ} 0 1 = cc in absurd (omega arith)

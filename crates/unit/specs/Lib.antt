@@ -1,2 +1,3 @@
 pub mod Unit
+pub mod Gaps
 pub mod Checks

@@ -3,6 +3,7 @@
 ghost use mathlib.Core.Path.{_≡_};
 ghost use Rattle.unit.specs.Unit.{emptyUnit, hasBlock, hasNet, withBlock, withNet};
 ghost use Rattle.unit.specs.Unit.{sizeAllowed, sizesAllowed};
+ghost use Rattle.unit.specs.Gaps.{isGap};
 ghost use Rattle.unit.specs.Checks.{andThen, refusal, blockRoomCheck};
 ghost use Rattle.spline.specs.Multiplicities.{multiplicities, allowed};
 
@@ -176,6 +177,13 @@ pub fn sizes_allowed(n1: u16, n2: u16, n3: u16) -> bool
         return false;
     }
     n1 as u32 * n2 as u32 * n3 as u32 <= Unit::ENTRIES
+}
+
+// Whether a correction marks a gap, an entry that was never measured.
+pub fn is_gap(correction: i16) -> bool
+    ensures { λ r. ⌜ r ≡ isGap correction ⌝ }
+{
+    correction == -32768
 }
 
 // Check 9, of block slices of these lengths for n entries.

@@ -76,8 +76,12 @@ fn tables_change_no_answer() {
 }
 
 #[test]
-fn a_gap_of_the_window_is_named() {
-    assert_eq!(ask(&small(NEVER_MEASURED), [1; 4], [1, 1, 1], 1), Err(Refusal::at(13, 1)));
+fn a_gap_of_the_window_is_named_whatever_its_uncertainty() {
+    let mut block = small(NEVER_MEASURED);
+    for uncertainty in [0, 5, 65535] {
+        block.uncertainties[1] = uncertainty;
+        assert_eq!(ask(&block, [1; 4], [1, 1, 1], 1), Err(Refusal::at(13, 1)));
+    }
 }
 
 #[test]

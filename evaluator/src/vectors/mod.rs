@@ -3,6 +3,7 @@
 mod builds;
 mod damage;
 mod faces;
+mod gaps;
 mod inspections;
 mod live;
 mod loads;
@@ -61,10 +62,10 @@ fn all_nets(wanted: &BTreeSet<Multiplicities>) -> (String, Shelf) {
 }
 
 fn make() -> Vec<Vectors> {
-    let of_points = [points::shapes(), faces::shapes(), refusals::shapes(), damage::shapes()].concat();
+    let of_points = [points::shapes(), faces::shapes(), refusals::shapes(), damage::shapes(), gaps::shapes()].concat();
     let wanted = [of_points, live::shapes(), inspections::shapes(), whole::shapes()].concat();
     let (digests, shelf) = all_nets(&wanted.into_iter().collect());
-    let scenes = [points::scenes(), faces::scenes(), refusals::scenes(&shelf), damage::scenes(&shelf)];
+    let scenes = [points::scenes(), faces::scenes(), refusals::scenes(&shelf), damage::scenes(&shelf), gaps::scenes()];
     let scenes: Vec<Scene> = scenes.into_iter().flatten().collect();
     vec![
         Vectors { name: "nets.txt", text: digests },
@@ -108,7 +109,7 @@ mod tests {
         let live = live::text(&refusals::live_scenes(&shelf), &shelf);
         let cases: [(String, &[u8]); 4] = [
             (builds::text(), &[1, 2, 4]),
-            (loads::text(), &[5, 6, 7, 8, 9]),
+            (loads::text(), &[5, 6, 7, 8, 16, 9]),
             (points, &[21, 22, 4, 9, 10, 11, 12, 13, 23]),
             (live, &[21, 22, 4, 9, 10, 11, 15, 12, 13, 23]),
         ];

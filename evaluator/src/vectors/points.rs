@@ -62,7 +62,7 @@ pub fn figures() -> Vec<Scene> {
     for (coordinates, divisor) in [([1, 1, 1], 1), ([3, 2, 2], 2), ([0, 1, 1], 1), ([2, 1, 1], 1), ([3, 1, 1], 1)] {
         measured.ask(coordinates, divisor);
     }
-    block.corrections[1] = NEVER_MEASURED;
+    (block.corrections[1], block.uncertainties[1]) = (NEVER_MEASURED, 0);
     let mut with_gap = Scene::new(shape([1; 4]), block);
     with_gap.ask([1, 1, 1], 1);
     vec![measured, with_gap]

@@ -66,6 +66,7 @@ fn random_points(asked: Asked, seed: u64, shelf: &Shelf, report: &mut Report) ->
     group(" over damaged nets", 2, &mut |seed, tally| points::damaged(asked, seed, 6000, shelf, tally))?;
     group(" by recurrence", 3, &mut |seed, tally| points::by_recurrence(asked, seed, 1500, shelf, tally))?;
     group(" at the same time", 4, &mut |seed, tally| threads::run(asked, seed, shelf, tally))?;
+    group(" over gaps", 5, &mut |seed, tally| points::over_gaps(asked, seed, 1000, shelf, tally))?;
     spread.finish()
 }
 
@@ -81,7 +82,7 @@ fn run() -> Outcome {
     let shelf = stored_vectors(&mut report)?;
     random_calls(&shelf, &mut report)?;
     random_points(Asked::Exact, 4, &shelf, &mut report)?;
-    random_points(Asked::Live, 8, &shelf, &mut report)?;
+    random_points(Asked::Live, 9, &shelf, &mut report)?;
     report.finish()
 }
 

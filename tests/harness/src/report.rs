@@ -40,7 +40,7 @@ pub struct Kind {
 
 pub const BUILD: Kind = Kind { name: "build", numbers: &[0, 1, 2, 4] };
 pub const INSPECT: Kind = Kind { name: "inspect", numbers: &[0, 3, 4, 14] };
-pub const LOAD: Kind = Kind { name: "load", numbers: &[0, 5, 6, 7, 8, 9] };
+pub const LOAD: Kind = Kind { name: "load", numbers: &[0, 5, 6, 7, 8, 16, 9] };
 pub const ANSWER: Kind = Kind { name: "answer", numbers: &[0, 21, 22, 4, 9, 10, 11, 12, 13, 23] };
 pub const LIVE: Kind = Kind { name: "live", numbers: &[0, 21, 22, 4, 9, 10, 11, 15, 12, 13, 23] };
 

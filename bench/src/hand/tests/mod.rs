@@ -1,4 +1,4 @@
-//! The hand-written calls against the library's, refusals included.
+//! The hand-written calls against the library's, refusals included; loads against the evaluator's too.
 
 mod builds;
 mod inspections;

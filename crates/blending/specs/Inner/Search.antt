@@ -3,7 +3,7 @@ use mathlib.Core.Bool.{cond}
 use Prim.Native.Nat.{suc, zero, ℕ}
 use lib.IntN.{ℤ}
 use Rattle.sums.specs.Search.{Found, at, nowhere, orElse}
-use Rattle.blending.specs.Gaps.{isGap}
+use Rattle.unit.specs.Gaps.{isGap}
 use Rattle.blending.specs.Inner.Frame.{entryAt}
 use Rattle.blending.specs.declared.frame.Frame.{Frame}
 use Rattle.blending.specs.declared.window.Gap.{Gap}

@@ -1,7 +1,7 @@
 -- All checks have passed before the first write, so both arrays lie in the file and have room in the slices.
 use mathlib.Core.List.{List}
 use mathlib.Core.Path.{_∙_, _≡_, ap, sym}
-use Prim.Native.Nat.{_*_, _+_, _≤_, ℕ}
+use Prim.Native.Nat.{_≤_, ℕ}
 use native.Mathlib.Omega.{arith}
 use borrow.Author.Needs.{needs}
 use lib.IntN.{ℤ}
@@ -9,10 +9,11 @@ use lib.ListN.{length}
 use denote.Ref.{now}
 use Rattle.unit.specs.declared.Checked.the-variants.{Passed}
 use Rattle.unit.specs.declared.UnitAnswer.the-variants.{Changed}
-use Rattle.field.proofs.Accepted.{LoadAccepted, load-accepted}
-use Rattle.field.proofs.Entries.{counted, counted-fill}
+use Rattle.field.proofs.Accepted.{LoadAccepted, has-entries, load-accepted}
+use Rattle.field.proofs.Entries.{counted}
 use Rattle.field.proofs.load.Statement.{statement}
-use Rattle.field.specs.File.{correction, entryCount, uncertaintiesStart}
+use Rattle.field.specs.File.{entryCount}
+use Rattle.field.specs.Inner.Entries.{HasEntries}
 use Rattle.field.specs.Load.{loadAnswer, loadChecks, loadCorrections, loadUncertainties}
 use Rattle.field.proofs.load.Tie as tie
 
@@ -47,8 +48,8 @@ module _ (c : tie.After-entries) where
   count : n ≡ entryCount (file checked)
   count = counted _ (file checked) (c .entries .ensures) (c .before .read .ensures)
 
-  in-file : uncertaintiesStart n + 2 * n ≤ length (file checked)
-  in-file = omega (arith, count, taken checked .layout .exact)
+  readable : HasEntries (file checked) n
+  readable = has-entries (file checked) (taken checked .layout) count
 
   rooms : (n ≤ length (corrections checked)) × (n ≤ length (uncertainties checked))
   rooms = omega (arith, count, taken checked .room1, taken checked .room2)
@@ -74,21 +75,15 @@ read-requires c κs = taken c .layout .header
 entries-requires : tie.Need-entries-requires
 entries-requires c κs = search needs
 
-mul-second : tie.Need-mul-second
-mul-second c = omega (arith, in-file c)
-
-add-second : tie.Need-add-second
-add-second c = omega (arith, in-file c)
-
 read-corrections-requires : tie.Need-read-corrections-requires
 read-corrections-requires c κs =
     let b = c .before in
-    (omega (arith, in-file b), omega (arith, rooms b))
+    (omega (arith, readable b), omega (arith, rooms b))
 
 read-uncertainties-requires : tie.Need-read-uncertainties-requires
 read-uncertainties-requires c κs =
     let b = c .before .before .before .before in
-    (omega (arith, in-file b), omega (arith, rooms b))
+    (readable b, omega (arith, rooms b))
 
 with-block-requires : tie.Need-with-block-requires
 with-block-requires c κs = search needs
@@ -100,7 +95,7 @@ same-length-2 : tie.Need-same-length-2
 same-length-2 c = search needs
 
 returns-2 : tie.Need-returns-2
-unfolding loadAnswer loadCorrections loadUncertainties correction
+unfolding loadAnswer loadCorrections loadUncertainties
 returns-2 c =
     let read-u = c .before .before .before .read-uncertainties in
     let read-c = c .before .before .before .before .before .before .read-corrections in
@@ -108,10 +103,7 @@ returns-2 c =
     let sizes = b .before .read .ensures in
     let e = passed (checked b) in (
       simp e (ap Changed (c .with-block .ensures ∙ simp (sizes .0, sizes .1, sizes .2))),
-      (
-        simp (e, ← (count b)) (read-c .ensures),
-        simp e (counted-fill (file (checked b)) (uncertainties (checked b)) (count b) (read-u .ensures)),
-      ),
+      (simp (e, ← (count b)) (read-c .ensures), simp (e, ← (count b)) (read-u .ensures)),
     )
 
 pub load-spec : {M : Type 1} → statement M
@@ -124,8 +116,6 @@ load-spec =
     enum-told
     read-requires
     entries-requires
-    mul-second
-    add-second
     read-corrections-requires
     read-uncertainties-requires
     with-block-requires

@@ -4,7 +4,7 @@ use mathlib.Core.Path.{_∙_, _≡_, ap, refl, sym}
 use Prim.Native.Nat.{_-_, _≤_, ℕ}
 use native.Mathlib.Nat.{le-antisymm}
 use native.Mathlib.Omega.{arith}
-use borrow.Author.Needs.{needs, sfits-of}
+use borrow.Author.Needs.{sfits-of}
 use lib.IntN.{ℤ}
 use lib.ListN.{length, length-set, set}
 use mir.Facts.{toZ-ofZ}
@@ -14,55 +14,39 @@ use denote.Ref.{now}
 use Rattle.sums.proofs.Fill.{fill-none, fill-store}
 use Rattle.sums.specs.Fill.{filled}
 use Rattle.field.proofs.read_corrections.Statement.{statement}
-use Rattle.field.specs.File.{entry, signed}
+use Rattle.field.specs.File.{correction}
 use Rattle.field.proofs.read_corrections.Tie as tie
 
--- the number that an entry's bits stand for
-abbrev value : List ℕ → ℕ → ℕ → ℤ
-value file start i = signed (entry file start i)
-
 abbrev Inv-loop : tie.InvT-loop
-Inv-loop file start n corrections₀ i₀ corrections i =
-    (i ≤ n) × (corrections ≡ filled (value file start) i corrections₀)
+Inv-loop file n corrections₀ i₀ corrections i =
+    (i ≤ n) × (corrections ≡ filled (correction file) i corrections₀)
     × (length corrections ≡ length corrections₀)
 
 abbrev μ-loop : tie.MeasureT-loop
-μ-loop file start n corrections₀ i₀ corrections i = n - i
+μ-loop file n corrections₀ i₀ corrections i = n - i
 
 -- at the end of a turn
-module _ (c : tie.After-to-signed Inv-loop μ-loop) where
+module _ (c : tie.After-correction-at Inv-loop μ-loop) where
   abbrev start : tie.Start Inv-loop μ-loop
-  start = c .before .before .before .before .before
+  start = c .before .before .before .before
 
   abbrev i : ℕ
-  i = c .before .before .before .loop .i
+  i = c .before .before .loop .i
 
   abbrev stored : ℤ
-  stored = toZ w16 (ofZ w16 (c .to-signed .result))
+  stored = toZ w16 (ofZ w16 (c .correction-at .result))
 
-  read : stored ≡ value (now (start .args .file)) (start .args .start) i
-  read =
-      toZ-ofZ (sfits-of (c .to-signed .ok))
-      ∙ c .to-signed .ensures
-      ∙ ap signed (c .before .word-at .ensures)
+  read : stored ≡ correction (now (start .args .file)) i
+  read = toZ-ofZ (sfits-of (c .correction-at .ok)) ∙ c .correction-at .ensures
 
 loop-holds : tie.Need-loop-holds Inv-loop μ-loop
 loop-holds c = (omega arith, sym (fill-none _ _), refl)
 
-mul-word-at : tie.Need-mul-word-at Inv-loop μ-loop
-mul-word-at c = omega arith
+correction-at-requires : tie.Need-correction-at-requires Inv-loop μ-loop
+correction-at-requires c κs = omega arith
 
-add-word-at : tie.Need-add-word-at Inv-loop μ-loop
-add-word-at c = omega arith
-
-word-at-requires : tie.Need-word-at-requires Inv-loop μ-loop
-word-at-requires c κs = omega arith
-
-to-signed-requires : tie.Need-to-signed-requires Inv-loop μ-loop
-to-signed-requires c κs = search needs
-
-mul-t11 : tie.Need-mul-t11 Inv-loop μ-loop
-mul-t11 c = omega arith
+mul-t7 : tie.Need-mul-t7 Inv-loop μ-loop
+mul-t7 c = omega arith
 
 slice-set-from-corrections : tie.Need-slice-set-from-corrections Inv-loop μ-loop
 slice-set-from-corrections c = omega arith
@@ -75,7 +59,7 @@ loop-less c = omega arith
 
 loop-again : tie.Need-loop-again Inv-loop μ-loop
 loop-again c =
-    let inv = c .before .before .before .loop .inv in (
+    let inv = c .before .before .loop .inv in (
       omega arith,
       ap (λ (l : List ℤ). set l (i c) (stored c)) (inv .1)
           ∙ fill-store _ (i c) _ (stored c) (omega arith) (read c),
@@ -97,11 +81,8 @@ read-corrections-spec =
     Inv-loop
     μ-loop
     loop-holds
-    mul-word-at
-    add-word-at
-    word-at-requires
-    to-signed-requires
-    mul-t11
+    correction-at-requires
+    mul-t7
     slice-set-from-corrections
     add-i
     loop-less

@@ -8,28 +8,22 @@ use lib.ListN.{length, length-set, set}
 use Rattle.sums.proofs.Fill.{fill-none, fill-store}
 use Rattle.sums.specs.Fill.{filled}
 use Rattle.field.proofs.read_uncertainties.Statement.{statement}
-use Rattle.field.specs.File.{entry}
+use Rattle.field.specs.File.{uncertainty}
 use Rattle.field.proofs.read_uncertainties.Tie as tie
 
 abbrev Inv-loop : tie.InvT-loop
-Inv-loop file start n uncertainties₀ i₀ uncertainties i =
-    (i ≤ n) × (uncertainties ≡ filled (entry file start) i uncertainties₀)
+Inv-loop file n uncertainties₀ i₀ uncertainties i =
+    (i ≤ n) × (uncertainties ≡ filled (uncertainty file) i uncertainties₀)
     × (length uncertainties ≡ length uncertainties₀)
 
 abbrev μ-loop : tie.MeasureT-loop
-μ-loop file start n uncertainties₀ i₀ uncertainties i = n - i
+μ-loop file n uncertainties₀ i₀ uncertainties i = n - i
 
 loop-holds : tie.Need-loop-holds Inv-loop μ-loop
 loop-holds c = (omega arith, sym (fill-none _ _), refl)
 
-mul-word-at : tie.Need-mul-word-at Inv-loop μ-loop
-mul-word-at c = omega arith
-
-add-word-at : tie.Need-add-word-at Inv-loop μ-loop
-add-word-at c = omega arith
-
-word-at-requires : tie.Need-word-at-requires Inv-loop μ-loop
-word-at-requires c κs = omega arith
+uncertainty-at-requires : tie.Need-uncertainty-at-requires Inv-loop μ-loop
+uncertainty-at-requires c κs = (c .before .before .before .before .pre .0, omega arith)
 
 mul-uncertainties : tie.Need-mul-uncertainties Inv-loop μ-loop
 mul-uncertainties c = omega arith
@@ -47,8 +41,8 @@ loop-again : tie.Need-loop-again Inv-loop μ-loop
 loop-again c =
     let b = c .before .before .loop in (
       omega arith,
-      ap (λ (l : List ℕ). set l (b .i) (c .word-at .result)) (b .inv .1)
-          ∙ fill-store _ (b .i) _ _ (omega arith) (c .word-at .ensures),
+      ap (λ (l : List ℕ). set l (b .i) (c .uncertainty-at .result)) (b .inv .1)
+          ∙ fill-store _ (b .i) _ _ (omega arith) (c .uncertainty-at .ensures),
       simp length-set (b .inv .2),
     )
 
@@ -67,9 +61,7 @@ read-uncertainties-spec =
     Inv-loop
     μ-loop
     loop-holds
-    mul-word-at
-    add-word-at
-    word-at-requires
+    uncertainty-at-requires
     mul-uncertainties
     slice-write-uncertainties
     add-i

@@ -4,7 +4,7 @@ mod limits;
 mod zeros;
 
 use super::scene::{Scene, header};
-use super::{Shelf, damage, points, refusals};
+use super::{Shelf, damage, gaps, points, refusals};
 use crate::live;
 use crate::net::Multiplicities;
 use crate::unit::told;
@@ -25,12 +25,13 @@ const OFF: u8 = 0;
 const ON: [u8; 4] = [1, 255, 2, 128];
 
 pub fn shapes() -> Vec<Multiplicities> {
-    [limits::shapes(), zeros::shapes(), refusals::shapes(), damage::shapes()].concat()
+    [limits::shapes(), zeros::shapes(), refusals::shapes(), damage::shapes(), gaps::shapes()].concat()
 }
 
 pub fn scenes(shelf: &Shelf) -> Vec<Scene> {
     let own = [points::figures(), limits::scenes(), zeros::scenes(shelf)];
-    own.into_iter().chain([refusals::live_scenes(shelf), damage::live_scenes(shelf)]).flatten().collect()
+    let shared = [refusals::live_scenes(shelf), damage::live_scenes(shelf), gaps::scenes()];
+    own.into_iter().chain(shared).flatten().collect()
 }
 
 /// The two lines of each case.

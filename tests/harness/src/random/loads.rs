@@ -8,7 +8,7 @@ use crate::report::Tally;
 use evaluator::field::{self, Block, NEVER_MEASURED};
 use evaluator::random::Random;
 
-const CHECKS: [u8; 5] = [5, 6, 7, 8, 9];
+const CHECKS: [u8; 6] = [5, 6, 7, 8, 16, 9];
 const SIZES_LENGTH: usize = 6;
 
 pub fn run(seed: u64, count: usize, tally: &mut Tally) -> Outcome {
@@ -23,11 +23,14 @@ pub fn run(seed: u64, count: usize, tally: &mut Tally) -> Outcome {
     })
 }
 
+/// Some entries are gaps, which have no uncertainty, and some corrections nearly that of a gap.
 fn block(random: &mut Random) -> Block {
     let mut block = Block::random(sizes([1; 3], random), random);
+    let last = block.corrections.len() - 1;
     for _ in 0..random.between(0, 3) {
-        let entry = random.between(0, block.corrections.len() - 1);
-        block.corrections[entry] = NEVER_MEASURED;
+        let (gap, measured) = (random.between(0, last), random.between(0, last));
+        block.corrections[measured] = pick(random, &[-32767, -32640, 0, 128]);
+        (block.corrections[gap], block.uncertainties[gap]) = (NEVER_MEASURED, 0);
     }
     block
 }
@@ -55,6 +58,14 @@ fn case(plan: Plan, random: &mut Random) -> (Vec<u8>, [usize; 2]) {
 
 fn damage(file: &mut Vec<u8>, fault: u8, entries: usize, random: &mut Random) {
     match fault {
+        16 => {
+            for _ in 0..random.between(1, 3) {
+                let entry = random.between(0, entries - 1);
+                let any = random.between(1, 32767) as u16;
+                put(file, entry, NEVER_MEASURED as u16);
+                put(file, entries + entry, pick(random, &[1, 256, 32767, any]));
+            }
+        }
         8 => {
             for _ in 0..random.between(1, 3) {
                 let entry = random.between(0, entries - 1);
@@ -72,11 +83,26 @@ fn damage(file: &mut Vec<u8>, fault: u8, entries: usize, random: &mut Random) {
     }
 }
 
-/// A few bytes after any sizes, or a small file with other bytes here and there.
+/// Writes one of the numbers after the sizes: the corrections and then the uncertainties.
+fn put(file: &mut [u8], number: usize, word: u16) {
+    file[SIZES_LENGTH + 2 * number..][..2].copy_from_slice(&word.to_le_bytes());
+}
+
+/// A small file with entries of each kind, uncertainties of gaps and too large ones among them; then with other bytes
+/// here and there, or of another length.
 fn free(random: &mut Random) -> (Vec<u8>, [usize; 2]) {
     let n = pick(random, &[[1, 1, 1], [2, 1, 1], [1, 2, 3], [2, 2, 2]]);
     let sizes = evaluator::unit::Sizes::new(n).expect("within the limits");
-    let mut file = Block::random(sizes, random).file();
+    let Block { mut corrections, mut uncertainties, .. } = Block::random(sizes, random);
+    for (correction, uncertainty) in corrections.iter_mut().zip(&mut uncertainties) {
+        if random.below(4) == 0 {
+            (*correction, *uncertainty) = (NEVER_MEASURED, pick(random, &[0, 0, 1, *uncertainty]));
+        }
+        if random.below(12) == 0 {
+            *uncertainty += 32768;
+        }
+    }
+    let mut file = Block { sizes, corrections, uncertainties }.file();
     for _ in 0..random.between(0, 4) {
         let at = random.between(0, file.len() - 1);
         file[at] = random.below(256) as u8;

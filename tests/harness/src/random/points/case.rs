@@ -120,11 +120,15 @@ fn sparse(sizes: Sizes, random: &mut Random) -> Block {
     block
 }
 
+/// Whether a point of this cube needs the entry.
+pub fn is_needed(j: [usize; 3], cube: [usize; 3], extents: [usize; 3]) -> bool {
+    (0..3).all(|b| j[b] <= cube[b] && cube[b] < j[b] + extents[b])
+}
+
 /// Every entry that the point does not need was never measured.
 fn gaps_around(cube: [usize; 3], extents: [usize; 3], sizes: Sizes, corrections: &mut [i16]) {
     for (index, correction) in corrections.iter_mut().enumerate() {
-        let j = sizes.entry(index);
-        if (0..3).any(|b| j[b] > cube[b] || j[b] + extents[b] <= cube[b]) {
+        if !is_needed(sizes.entry(index), cube, extents) {
             *correction = NEVER_MEASURED;
         }
     }

@@ -69,14 +69,17 @@ fn fault(check: u8, case: &mut Case, shelf: &Shelf, random: &mut Random) {
             case.uncertainties.truncate(lengths[1]);
         }
         12 => outside(case, random),
-        13 => {
-            for _ in 0..random.between(1, 2) {
-                let index = needed_entry(case, random);
-                case.corrections[index] = NEVER_MEASURED;
-            }
-        }
+        13 => gaps_in_window(case, random),
         23 => one_share_more(case, shelf, random),
         _ => {}
+    }
+}
+
+/// One or two entries that the point needs were never measured.
+pub fn gaps_in_window(case: &mut Case, random: &mut Random) {
+    for _ in 0..random.between(1, 2) {
+        let index = needed_entry(case, random);
+        case.corrections[index] = NEVER_MEASURED;
     }
 }
 

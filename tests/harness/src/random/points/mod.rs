@@ -1,8 +1,9 @@
-//! Random points, of the exact or of the live call: over defined nets, with faults, and over damaged nets.
+//! Random points, of the exact or of the live call: over defined nets, with faults, over damaged nets, and over gaps.
 
 mod case;
 mod damage;
 mod faults;
+mod gaps;
 mod spread;
 
 use super::{Plan, each_case, each_plan, pick, shape};
@@ -10,6 +11,7 @@ use crate::Outcome;
 use crate::report::Tally;
 use crate::shelf::Shelf;
 use case::Case;
+use evaluator::point::Call;
 use evaluator::random::Random;
 use evaluator::{lent, live, point};
 pub use spread::Spread;
@@ -80,6 +82,22 @@ pub fn damaged(asked: Asked, seed: u64, count: usize, shelf: &Shelf, tally: &mut
         let mut case = Case::sound(asked, shape(random), random);
         let damage = damage::WAYS[number % damage::WAYS.len()];
         damage(&mut case, shelf, random);
+        case.check(shelf, tally, lent::answer)?;
+        Ok(())
+    })
+}
+
+/// Calls over blocks with gaps: with any uncertainties at these the answer is that of the evaluator over the same block
+/// and over the one that has 0 there; and that one is asked too.
+pub fn over_gaps(asked: Asked, seed: u64, count: usize, shelf: &Shelf, tally: &mut Tally) -> Outcome {
+    each_case(seed, count, |_, random| {
+        let mut case = gaps::with_gaps(asked, random);
+        let zeros = gaps::uncertainties(&case, || 0);
+        case.uncertainties = gaps::uncertainties(&case, || gaps::any_uncertainty(random));
+        let over_zeros = |call: &Call, net: &[u32]| lent::answer(&Call { uncertainties: &zeros, ..*call }, net);
+        case.check(shelf, tally, lent::answer)?;
+        case.check(shelf, tally, over_zeros)?;
+        case.uncertainties = zeros;
         case.check(shelf, tally, lent::answer)?;
         Ok(())
     })

@@ -1,0 +1,88 @@
+-- Where no bit is set so far, no entry before the i-th has a fault.
+use mathlib.Core.Bool.{false}
+use mathlib.Core.List.{List}
+use mathlib.Core.Path.{_∙_, _≡_}
+use Prim.Native.Nat.{_-_, _<_, _≤_, ℕ}
+use native.Mathlib.Nat.{le-antisymm}
+use native.Mathlib.Omega.{arith}
+use borrow.Author.Count.{below-more}
+use borrow.Author.Needs.{needs, sfits-of}
+use lib.Bits.{and-le-l, and-le-r, bitOr, or-add-and}
+use lib.IntN.{ℤ}
+use mir.Facts.{toZ-ofZ}
+use Rattle.unit.specs.Gaps.{uncertainGap}
+use Rattle.field.proofs.checks.faults.Statement.{statement}
+use Rattle.field.specs.File.{correction, uncertainty}
+use Rattle.field.proofs.checks.faults.Tie as tie
+
+-- two numbers are 0 if, joined, they have no bit set
+no-bits : (a b : ℕ) → bitOr a b ≡ 0 → (a ≡ 0) × (b ≡ 0)
+no-bits a b e = let s = or-add-and a b in
+    (omega (arith, e, s, and-le-r a b), omega (arith, e, s, and-le-l a b))
+
+-- neither 8 nor 16 speaks of entry i
+abbrev Sound : List ℕ → ℕ → Type 0
+Sound file i =
+    (uncertainty file i ≤ 32767) × (uncertainGap (correction file i) (uncertainty file i) ≡ false)
+
+-- by the numbers that were read of it
+sound : (file : List ℕ) (i : ℕ) (c : ℤ) (u : ℕ) → c ≡ correction file i → u ≡ uncertainty file i
+    → (u ≤ 32767) × (uncertainGap c u ≡ false) → Sound file i
+sound file i c u e f h = rw (← e, ← f) h
+
+abbrev Inv-loop : tie.InvT-loop
+Inv-loop file n all₀ i₀ all i = (i ≤ n) × (all ≡ 0 → (j : ℕ) → j < i → Sound file j)
+
+abbrev μ-loop : tie.MeasureT-loop
+μ-loop file n all₀ i₀ all i = n - i
+
+loop-holds : tie.Need-loop-holds Inv-loop μ-loop
+loop-holds c = (omega arith, λ e j l. absurd (omega arith))
+
+correction-at-requires : tie.Need-correction-at-requires Inv-loop μ-loop
+correction-at-requires c κs = omega arith
+
+uncertainty-at-requires : tie.Need-uncertainty-at-requires Inv-loop μ-loop
+uncertainty-at-requires c κs = (c .before .before .before .before .pre, omega arith)
+
+fault-requires : tie.Need-fault-requires Inv-loop μ-loop
+fault-requires c κs = search needs
+
+add-i : tie.Need-add-i Inv-loop μ-loop
+add-i c = omega arith
+
+loop-less : tie.Need-loop-less Inv-loop μ-loop
+loop-less c = omega arith
+
+loop-again : tie.Need-loop-again Inv-loop μ-loop
+loop-again c =
+    let l = c .before .before .before .before .loop in
+    let u = c .before in
+    let k = u .before in (
+      omega arith,
+      λ e.
+          let none = no-bits (l .all) (c .fault .result) e in
+          let read = toZ-ofZ (sfits-of (k .correction-at .ok)) ∙ k .correction-at .ensures in
+          below-more _ (l .i) (l .inv .1 (none .0))
+          (sound _ (l .i) _ _ read (u .uncertainty-at .ensures) (c .fault .ensures (none .1))),
+    )
+
+returns : tie.Need-returns Inv-loop μ-loop
+returns c =
+    let e = le-antisymm (c .before .loop .inv .0) (c .loop-test .left) in
+    rw (← e) (c .before .loop .inv .1)
+
+pub faults-spec : {M : Type 1} → statement M
+faults-spec =
+    tie.close
+    (tie.spec
+    Inv-loop
+    μ-loop
+    loop-holds
+    correction-at-requires
+    uncertainty-at-requires
+    fault-requires
+    add-i
+    loop-less
+    loop-again
+    returns)
