@@ -1,8 +1,8 @@
 -- A block that holds one measured correction throughout is answered with exactly this correction: no entry is
 -- a gap, each blended number is the correction times m!, and the weights add up to D.
-use mathlib.Core.Bool.{Bool, _&&_, false, true}
+use mathlib.Core.Bool.{Bool, _&&_, and-false, false}
 use mathlib.Core.List.{List}
-use mathlib.Core.Path.{_∙_, _≡_, ap, refl, subst, sym}
+use mathlib.Core.Path.{_∙_, _≡_, ap, subst, sym}
 use Prim.Native.Nat.{_%_, _+_, _-_, _/_, _<_, _^_, ℕ}
 use native.Mathlib.Omega.{arith}
 use lib.IntN.{*ℤ-comm, _*ℤ_, pos, ℤ}
@@ -46,10 +46,6 @@ use Rattle.claims.proofs.WindowShares.{adds-up, window-shares}
 use Rattle.claims.specs.Demands.{ConstantBlock}
 use Rattle.claims.specs.Nets.{HoldsDefined}
 use Rattle.claims.specs.Points.{Constant}
-
-and-false : (a : Bool) → (a && false) ≡ false
-and-false true = refl
-and-false false = refl
 
 -- no entry of a constant block is a gap
 constant-measured : (v : Multiplicities) (n k : Axis → ℕ) (corrections : List ℤ) (c : ℤ)

@@ -30,6 +30,7 @@ use Rattle.point.specs.Answer.{pointAnswer}
 use Rattle.point.specs.declared.Fraction.{Fraction}
 use Rattle.point.specs.declared.PointAnswer.the-variants as points
 use Rattle.live.specs.Answer.{float, liveAnswer, liveValue}
+use Rattle.live.specs.Inner.Floats.{exact}
 use Rattle.live.specs.declared.LiveAnswer.the-variants.{Refused}
 use Rattle.claims.proofs.Live.{Passes, fraction, live, live-is, live-passes, valued}
 use Rattle.claims.proofs.NumeratorSizes.{numerator-size, uncertainty-size}
@@ -42,7 +43,7 @@ zero-bits : toBits binary64 (float (pos 0)) ≡ 0
 unfolding ofInt toBits
 zero-bits = refl
 
-value-of : (z : ℤ) → natAbs z ≤ 9007199254740992 → HasValue (float z) (negative z) (natAbs z) 1
+value-of : (z : ℤ) → natAbs z ≤ exact → HasValue (float z) (negative z) (natAbs z) 1
 unfolding ofInt
 value-of (pos n) h = round-whole binary64 false n h
 value-of (negsuc n) h = round-whole binary64 true (suc n) h
@@ -70,14 +71,14 @@ module _ (u : Unit) (net : List ℕ) (corrections : List ℤ) (uncertainties : L
       let some = divisor-accepted (netOf u) D (passes .divisor-passed) .some in
       rw (weights-add-up u x y z D some) (live-accepted (netOf u) D fifteen)
 
-  numerator-small : natAbs (fraction u net corrections uncertainties x y z D .numerator) ≤ 9007199254740992
+  numerator-small : natAbs (fraction u net corrections uncertainties x y z D .numerator) ≤ exact
   numerator-small =
       let size = numerator-size (netOf u) (numberAt net) (placing u x y z D) even 65535
       (correctionAt (sizes u) corrections)
       (λ j1 j2 j3. omega (arith, lent .of-corrections (index (sizes u) j1 j2 j3))) in
       omega (arith, size, within)
 
-  uncertainty-small : fraction u net corrections uncertainties x y z D .uncertainty ≤ 9007199254740992
+  uncertainty-small : fraction u net corrections uncertainties x y z D .uncertainty ≤ exact
   uncertainty-small =
       let size = uncertainty-size (netOf u) (numberAt net) (placing u x y z D) even 65535
       (uncertaintyAt (sizes u) uncertainties)

@@ -62,7 +62,8 @@ module _ (n : ℕ) (p : ℕ → Bool) (P : ℕ → Type 0) (says : (i : ℕ) →
 over-limit : (file : List ℕ) (i : ℕ) → (ltb 32767 (uncertainty file i) ≡ true) ↔ OverLimit file i
 over-limit file i = (ltb-true 32767 (uncertainty file i), lt-ltb 32767 (uncertainty file i))
 
-layout-never : (m : ℕ) (file : List ℕ) → (5 ≡ m → ⊥) → (6 ≡ m → ⊥) → (7 ≡ m → ⊥) → Never m (layoutChecks file)
+layout-never : (m : ℕ) (file : List ℕ) → (5 ≡ m → ⊥) → (6 ≡ m → ⊥) → (7 ≡ m → ⊥)
+    → Never m (layoutChecks file)
 unfolding layoutChecks
 layout-never m file not5 not6 not7 =
     if-never 5 m (ltb (length file) headerLength) _ not5
@@ -109,18 +110,14 @@ module _ (file : List ℕ) (correctionsLength uncertaintiesLength : ℕ) where
   unfolding loadChecks
   lowest-eight i e l = simp (e, lowest-found n isLarge (OverLimit file) (over-limit file) i l)
 
-  -- stopped by 16
   gap-told : (i : ℕ) → (isUncertainGap i ≡ true) ↔ GapWithUncertainty file i
   gap-told i = uncertain-gap (correction file i) (uncertainty file i)
 
-  abbrev SixteenAt : ℕ → Type 0
-  SixteenAt i =
-      (layoutChecks file ≡ Passed)
+  -- stopped by 16
+  sixteen-lowest : (i : ℕ) → loadChecks file correctionsLength uncertaintiesLength ≡ Stopped (refusal 16 i)
+      → (layoutChecks file ≡ Passed)
       × ((j : ℕ) → j < n → OverLimit file j → ⊥)
       × IsLowest n (GapWithUncertainty file) i
-
-  sixteen-lowest : (i : ℕ) → loadChecks file correctionsLength uncertaintiesLength ≡ Stopped (refusal 16 i)
-      → SixteenAt i
   unfolding loadChecks
   sixteen-lowest i h =
       let never = layout-never 16 file (λ z. omega arith) (λ z. omega arith) (λ z. omega arith) in
