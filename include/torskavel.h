@@ -3,8 +3,7 @@
  * target/staticlib/libc_api.a. torskavel_layout.h stands beside this file.
  *
  * A call answers or refuses by number, whatever numbers, bytes, counts and unit record it is handed; a refused call leaves
- * the record and every slice as they were, but for the two work slices of an inspection.
- * docs/SPECIFICATION.md says what each call must answer.
+ * the record and every slice as they were, but for the two work slices of an inspection. docs/SPECIFICATION.md has all.
  *
  * What the archive is:
  *
@@ -12,12 +11,11 @@
  *     the stack pointer aligned to 16 bytes, and uses the 128 bytes below it (the red zone): an interrupt handler that
  *     runs on the same stack must leave them alone.
  *   - At most TORSKAVEL_MAX_CODE bytes of code and constants, no data that is written, no heap. Nothing is kept between
- *     calls.
- *   - It needs no functions from outside but memset and memcpy.
+ *     calls. It needs no functions from outside but memset and memcpy.
  *   - A call takes at most TORSKAVEL_MAX_STACK bytes of stack, its arguments and return address and the red zone
  *     included, what memset and memcpy take not included. Only the calls for a point take as much, for its blended numbers;
- *     torskavel_build and torskavel_inspect take at most TORSKAVEL_MAX_STACK_BUILD, torskavel_empty_unit and
- *     torskavel_load at most TORSKAVEL_MAX_STACK_LOAD.
+ *     torskavel_build and torskavel_inspect take at most TORSKAVEL_MAX_STACK_BUILD; torskavel_empty_unit,
+ *     torskavel_factory and torskavel_load at most TORSKAVEL_MAX_STACK_LOAD.
  *
  * What the caller owes, since no call can test it. A slice is two arguments: a pointer to its first element and the count
  * of its elements (not bytes).
@@ -25,11 +23,9 @@
  *   - The pointer is aligned for its elements, and all counted elements may be read and, where the pointer is not to
  *     const, written until the call returns. Where the count is 0 the pointer is not looked at: it may be NULL.
  *   - Every counted element has been given a value: memory fresh from malloc has not, from calloc it has.
- *   - A slice whose pointer is not to const overlaps no other slice of the same call. Slices that are only read may
- *     overlap.
- *   - While a call runs nobody else writes to its slices, and nobody reads those that it writes: a build, an inspection
- *     or a load leaves them half-written until it returns. Calls that keep to this may run at the same time, as points
- *     over one net and one block that nobody writes.
+ *   - A slice whose pointer is not to const overlaps no other slice of the same call. Slices only read may overlap.
+ *   - While a call runs nobody else writes to its slices, and nobody reads those that it writes: they are half-written
+ *     until it returns. Calls that keep to this may run at the same time, as points over one net and one block.
  *   - While torskavel_live_answer runs the processor rounds to nearest, as at a program's start: bits 13 and 14 of MXCSR
  *     are 0. No step of it rounds, but the sign of a sum that is zero depends on them. No other call uses floats.
  *
@@ -46,10 +42,10 @@ extern "C" {
 #endif
 
 #define TORSKAVEL_VERSION_MAJOR 0
-#define TORSKAVEL_VERSION_MINOR 4
+#define TORSKAVEL_VERSION_MINOR 5
 #define TORSKAVEL_VERSION_PATCH 0
 
-#define TORSKAVEL_MAX_CODE 20480
+#define TORSKAVEL_MAX_CODE 24576
 #define TORSKAVEL_MAX_STACK 12288
 #define TORSKAVEL_MAX_STACK_BUILD 2048
 #define TORSKAVEL_MAX_STACK_LOAD 256
@@ -73,13 +69,14 @@ extern "C" {
 #define TORSKAVEL_NEVER_MEASURED (-32768)
 
 /* For multiplicities within the limits, the degree m of their net, the places on an axis of its box, and its places
-   W1 * W2 * W3. Place (x, y, z) has the index x + W1 * (y + W2 * z). */
+   W1 * W2 * W3. Place (x, y, z) has the index x + W1 * (y + W2 * z). The factory shape is 2, 2, 2, 1. */
 #define TORSKAVEL_DEGREE(v1, v2, v3, v4) ((size_t)(v1) + (size_t)(v2) + (size_t)(v3) + (size_t)(v4) - 3)
 #define TORSKAVEL_WIDTH(degree, vb, v4) ((size_t)(degree) * ((size_t)(vb) + (size_t)(v4)) + 1)
 #define TORSKAVEL_PLACES(v1, v2, v3, v4) \
     (TORSKAVEL_WIDTH(TORSKAVEL_DEGREE(v1, v2, v3, v4), v1, v4) * \
      TORSKAVEL_WIDTH(TORSKAVEL_DEGREE(v1, v2, v3, v4), v2, v4) * \
      TORSKAVEL_WIDTH(TORSKAVEL_DEGREE(v1, v2, v3, v4), v3, v4))
+#define TORSKAVEL_FACTORY_PLACES 2197
 
 /* For three sizes, the entries of their block and the bytes of its file. Entry (j1, j2, j3) has the index
    j1 + n1 * (j2 + n2 * j3). */
@@ -127,7 +124,8 @@ enum torskavel_refused {
     TORSKAVEL_REFUSED_SHARES = 23          /* no net that answers this point was lent: its shares do not add up to m! */
 };
 
-/* The answer of a call that changes the unit. A refused call answers the unit as it was handed in, byte for byte. */
+/* The answer of a call that changes the unit: torskavel_load sets its block half, the others its net half, and the other
+   half is kept byte for byte. A refused call answers the unit as it was handed in, byte for byte. */
 struct torskavel_unit_answer {
     uint32_t number;
     size_t place;
@@ -160,8 +158,7 @@ struct torskavel_unit torskavel_empty_unit(void);
  * multiplicities 1, 1, 1, 1. Refused by 1, 2, 4.
  *
  * The net is written to the first W1 * W2 * W3 elements of net; those past it stay as they are. work needs as many
- * elements, also for the empty order, and holds nothing of use afterwards. A refused build writes to neither. The unit
- * answered has the net, and keeps its block half byte for byte.
+ * elements, also for the empty order, and holds nothing of use afterwards; a refused build writes to neither.
  */
 struct torskavel_unit_answer torskavel_build(
     struct torskavel_unit unit,
@@ -170,9 +167,17 @@ struct torskavel_unit_answer torskavel_build(
     int32_t *work, size_t work_length);
 
 /*
+ * Copies the net of the factory shape, multiplicities 2, 2, 2, 1, from a table of the library: the numbers that a build by
+ * the order 1, 3, 2 writes, and the unit that it answers. Refused by 4.
+ *
+ * The net is written to the first TORSKAVEL_FACTORY_PLACES elements of net, whatever they held; those past it stay as they
+ * are. Where there are fewer, none is written. No work slice is needed.
+ */
+struct torskavel_unit_answer torskavel_factory(struct torskavel_unit unit, uint32_t *net, size_t net_length);
+
+/*
  * Inspects a net from elsewhere: whether the first W1 * W2 * W3 elements of net are the defined net of four
- * multiplicities. Where they are, the unit answered has that net, and keeps its block half byte for byte. Refused by
- * 3, 4, 14.
+ * multiplicities. Where they are, the unit answered has that net. Refused by 3, 4, 14.
  *
  * defined and work need W1 * W2 * W3 elements each, and hold nothing of use afterwards, also where the call was refused.
  */
@@ -188,7 +193,7 @@ struct torskavel_unit_answer torskavel_inspect(
  * low byte first. Refused by 5, 6, 7, 8, 16, 9, in this order.
  *
  * The numbers are written to the first n1 * n2 * n3 elements of corrections and of uncertainties; those past them stay as
- * they are. A refused load writes to neither. The unit answered has the block, and keeps its net half byte for byte.
+ * they are. A refused load writes to neither.
  */
 struct torskavel_unit_answer torskavel_load(
     struct torskavel_unit unit,

@@ -13,16 +13,16 @@ use calls::*;
 use core::mem::{align_of, offset_of, size_of};
 
 pub const VERSION_MAJOR: u32 = 0;
-pub const VERSION_MINOR: u32 = 4;
+pub const VERSION_MINOR: u32 = 5;
 pub const VERSION_PATCH: u32 = 0;
 
 /// The most bytes of code and constants of the archive.
-pub const MAX_CODE: usize = 20480;
+pub const MAX_CODE: usize = 24576;
 /// The most bytes of stack that a call takes, but for what memset and memcpy take.
 pub const MAX_STACK: usize = 12288;
 /// The most bytes of stack that `build` and `inspect` take.
 pub const MAX_STACK_BUILD: usize = 2048;
-/// The most bytes of stack that `empty_unit` and `load` take.
+/// The most bytes of stack that `empty_unit`, `factory` and `load` take.
 pub const MAX_STACK_LOAD: usize = 256;
 
 /// The most bytes of an order.
@@ -49,6 +49,8 @@ pub const MAX_DENOMINATOR: u64 = 281474976710656;
 pub const MAX_LIVE_DENOMINATOR: u64 = 137438953472;
 /// The correction of a gap, an entry that was never measured. In a file its uncertainty is 0.
 pub const NEVER_MEASURED: i16 = -32768;
+/// The places of the net of the factory shape, 2, 2, 2, 1.
+pub const FACTORY_PLACES: usize = 2197;
 
 /// The numbers of refusals, and 0 for none.
 pub mod refused {
@@ -163,6 +165,12 @@ pub fn build(unit: Unit, order: &[u8], net: &mut [u32], work: &mut [i32]) -> Uni
     let (work, work_length) = (work.as_mut_ptr(), work.len());
     // Safety: the pointers and lengths are of slices that are borrowed for the call; those below likewise.
     unsafe { torskavel_build(unit, order.as_ptr(), order.len(), net, net_length, work, work_length) }
+}
+
+/// Copies the net of the factory shape to the first `FACTORY_PLACES` numbers; where there are fewer, it is
+/// refused by 4.
+pub fn factory(unit: Unit, net: &mut [u32]) -> UnitAnswer {
+    unsafe { torskavel_factory(unit, net.as_mut_ptr(), net.len()) }
 }
 
 pub fn inspect(unit: Unit, v: [u8; 4], net: &[u32], defined: &mut [u32], work: &mut [i32]) -> UnitAnswer {

@@ -13,6 +13,7 @@ unsafe extern "C" {
         work: *mut i32,
         work_length: usize,
     ) -> UnitAnswer;
+    pub fn torskavel_factory(unit: Unit, net: *mut u32, net_length: usize) -> UnitAnswer;
     pub fn torskavel_inspect(
         unit: Unit,
         v1: u8,

@@ -2,6 +2,7 @@
 //! the box spline. All are first seen to give equal answers.
 
 mod builds;
+mod factory;
 mod hand;
 mod inspections;
 mod live;
@@ -19,6 +20,8 @@ fn main() {
     for order in builds::ORDERS {
         builds::measure(order).print();
     }
+    let (factory, build) = factory::measure();
+    factory.print();
     for v in inspections::CASES {
         inspections::measure(v).print();
     }
@@ -38,4 +41,5 @@ fn main() {
         .unzip();
     table::print_shapes(&hand::TUNED.map(|(shape, _)| shape), points.iter().chain(&live));
     table::print_live(&live, &exact);
+    table::print_factory(&factory, build);
 }

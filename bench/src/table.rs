@@ -80,3 +80,11 @@ pub fn print_live(rows: &[Row], exact: &[Duration]) {
         println!("| {call} | {} | {} | {} |", micros(*library), micros(*exact), ratio(*library, *exact));
     }
 }
+
+/// The library's factory call, and its build of the same net.
+pub fn print_factory(row: &Row, build: Duration) {
+    println!("\n| the same net | copied, µs | built, µs | built / copied |");
+    println!("|---|---|---|---|");
+    let Row { call, library, .. } = row;
+    println!("| {call} | {} | {} | {} |", micros(*library), micros(build), ratio(build, *library));
+}

@@ -17,20 +17,20 @@ ROOT = HERE.parents[1]
 PROGRAM = ROOT / "target/tools/explain"
 FIELD = ROOT / "examples/table.field"
 
-# Of each point: the order, the point over 10, and which of its page's pictures are shown.
+# Of each point: the net as `explain` takes it, the point over 10, and which of its page's pictures are shown.
 POINTS = {
     "middle": ("1", (34, 23, 26), {"tetrahedron": "cell", "window": "layers1"}),
     "far-face": ("1", (60, 49, 39), {"tetrahedron": "cell", "window": "layers1"}),
-    "factory": ("132", (34, 23, 26), {"window": "layers1"}),
-    "gap": ("132", (24, 45, 26), {"window": "layers1"}),
+    "factory": ("factory", (34, 23, 26), {"window": "layers1"}),
+    "gap": ("factory", (24, 45, 26), {"window": "layers1"}),
 }
 
 
 def pictures():
     with tempfile.TemporaryDirectory() as folder:
         page = Path(folder) / "page.html"
-        for name, (order, point, shown) in POINTS.items():
-            words = [PROGRAM, FIELD, order, *map(str, point), "10", "--page", page]
+        for name, (net, point, shown) in POINTS.items():
+            words = [PROGRAM, FIELD, net, *map(str, point), "10", "--page", page]
             subprocess.run(words, stdout=subprocess.DEVNULL)
             drawn = dict(re.findall(r'(?s)(?=<svg [^>]*id="(\w+)")(<svg .*?</svg>\n)', page.read_text()))
             for kind, id in shown.items():

@@ -25,16 +25,21 @@ pub fn listing(net: &Net) -> String {
     text
 }
 
+/// SHA-256 of the numbers as 32-bit little-endian bytes.
+pub fn numbers_digest(numbers: &[u32]) -> String {
+    let bytes: Vec<u8> = numbers.iter().flat_map(|n| n.to_le_bytes()).collect();
+    sha256::hex_digest(&bytes)
+}
+
 pub const DIGEST_HEADER: &str = "# v1 v2 v3 v4 degree W1 W2 W3 places max nonzero sum sha256-of-u32le\n";
 
-/// One line about a net: shape, greatest number, count of numbers that are not 0, sum, digest of the little-endian bytes.
+/// One line about a net: shape, greatest number, count of numbers that are not 0, sum, digest.
 pub fn digest(net: &Net) -> String {
     let v = net.multiplicities;
     let numbers = &net.numbers;
-    let bytes: Vec<u8> = numbers.iter().flat_map(|n| n.to_le_bytes()).collect();
     let greatest = numbers.iter().max().expect("a box has places");
     let nonzero = net.listing().count();
     let sum: u64 = numbers.iter().map(|&n| u64::from(n)).sum();
     let shape = format!("{} {} {}", join(v.counts()), v.degree(), join(v.widths()));
-    format!("{shape} {} {greatest} {nonzero} {sum} {}\n", numbers.len(), sha256::hex_digest(&bytes))
+    format!("{shape} {} {greatest} {nonzero} {sum} {}\n", numbers.len(), numbers_digest(numbers))
 }

@@ -1,14 +1,13 @@
-/* A unit from C: a net is built and inspected, a field file loaded, points answered, exactly and live. Run with
-   the path of a field file. */
+/* A unit from C: the factory's net is copied and inspected, a field file loaded, points answered, exactly and
+   live, and another net built. Run with the path of a field file. */
 #include "torskavel.h"
 
 #include <inttypes.h>
 #include <stdbool.h>
 #include <stdio.h>
 
-/* The order 1, 3, 2 has the box 13, 13, 13. */
-#define WIDTH 13
-#define PLACES (WIDTH * WIDTH * WIDTH)
+/* For the larger of the two nets. That of the factory has TORSKAVEL_FACTORY_PLACES. */
+#define PLACES TORSKAVEL_PLACES(3, 2, 2, 1)
 
 static uint32_t net[PLACES], defined[PLACES];
 static int32_t work[PLACES];
@@ -22,16 +21,28 @@ static bool refused(uint32_t number, size_t place) {
     return number != 0;
 }
 
+/* Prints what net the unit has got, with one of its numbers, or the refusal. */
+static struct torskavel_unit got(struct torskavel_unit_answer a) {
+    const struct torskavel_unit u = a.unit;
+    if (!refused(a.number, a.place)) {
+        const size_t degree = TORSKAVEL_DEGREE(u.v1, u.v2, u.v3, u.v4);
+        const size_t w1 = TORSKAVEL_WIDTH(degree, u.v1, u.v4), w2 = TORSKAVEL_WIDTH(degree, u.v2, u.v4);
+        printf("multiplicities %d %d %d %d, ", u.v1, u.v2, u.v3, u.v4);
+        printf("number %" PRIu32 " at (6, 6, 6)\n", net[6 + w1 * (6 + w2 * 6)]);
+    }
+    return u;
+}
+
+static struct torskavel_unit factory(struct torskavel_unit unit) {
+    printf("factory: ");
+    return got(torskavel_factory(unit, net, PLACES));
+}
+
 static struct torskavel_unit build(struct torskavel_unit unit, const uint8_t *order, size_t length) {
     printf("build");
     for (size_t i = 0; i < length; i++) printf(" %d", order[i]);
     printf(": ");
-    struct torskavel_unit_answer a = torskavel_build(unit, order, length, net, PLACES, work, PLACES);
-    if (!refused(a.number, a.place)) {
-        printf("multiplicities %d %d %d %d, ", a.unit.v1, a.unit.v2, a.unit.v3, a.unit.v4);
-        printf("number %" PRIu32 " at (6, 6, 6)\n", net[6 + WIDTH * (6 + WIDTH * 6)]);
-    }
-    return a.unit;
+    return got(torskavel_build(unit, order, length, net, PLACES, work, PLACES));
 }
 
 static struct torskavel_unit inspect(struct torskavel_unit unit) {
@@ -97,8 +108,7 @@ int main(int count, char **words) {
     }
     struct torskavel_unit unit = torskavel_empty_unit();
     answer(unit, 5, 5, 5, 2);
-    unit = build(unit, (const uint8_t[]){1, 5}, 2);
-    unit = build(unit, (const uint8_t[]){1, 3, 2}, 3);
+    unit = factory(unit);
     const size_t length = read_file(words[1]);
     unit = load(unit, length);
     answer(unit, 5, 5, 5, 2);
@@ -115,5 +125,7 @@ int main(int count, char **words) {
     net[0] = 1;
     unit = inspect(unit);
     answer(unit, 4, 4, 4, 2);
+    unit = build(unit, (const uint8_t[]){1, 5}, 2);
+    unit = build(unit, (const uint8_t[]){1, 3, 2, 1}, 4); /* one repeat more than the factory's net has */
     return 0;
 }

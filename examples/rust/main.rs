@@ -1,14 +1,13 @@
-//! A unit from Rust: a net is built and inspected, a field file loaded, points answered, exactly and live. Run
-//! with the path of a field file.
+//! A unit from Rust: the factory's net is copied and inspected, a field file loaded, points answered, exactly
+//! and live, and another net built. Run with the path of a field file.
 
 #[path = "../../include/torskavel.rs"]
 mod torskavel;
 
-use torskavel::Unit;
+use torskavel::{Unit, UnitAnswer};
 
-/// The order 1, 3, 2 has the box 13, 13, 13.
-const WIDTH: usize = 13;
-const PLACES: usize = WIDTH * WIDTH * WIDTH;
+/// For the larger of the two nets. That of the factory has `torskavel::FACTORY_PLACES`.
+const PLACES: usize = torskavel::places([3, 2, 2, 1]);
 const ENTRIES: usize = 4096;
 
 /// The slices that the unit's numbers stand in.
@@ -40,14 +39,31 @@ fn report(call: &str, number: u32, place: usize, given: String) {
     }
 }
 
+/// What net a unit has, with one of its numbers.
+fn told(unit: Unit, net: &[u32]) -> String {
+    let Unit { v1, v2, v3, v4, .. } = unit;
+    let degree = v1 + v2 + v3 + v4 - 3;
+    let [w1, w2] = [v1, v2].map(|vb| usize::from(degree * (vb + v4) + 1));
+    let number = net[6 + w1 * (6 + w2 * 6)];
+    format!("multiplicities {v1} {v2} {v3} {v4}, number {number} at (6, 6, 6)")
+}
+
+/// Prints what net the unit has got, or the refusal, after which it has what it had.
+fn got(call: &str, a: UnitAnswer, slices: &Slices) -> Unit {
+    let given = if a.number == torskavel::refused::NOT { told(a.unit, &slices.net) } else { String::new() };
+    report(call, a.number, a.place, given);
+    a.unit
+}
+
+fn factory(unit: Unit, slices: &mut Slices) -> Unit {
+    let a = torskavel::factory(unit, &mut slices.net);
+    got("factory", a, slices)
+}
+
 fn build(unit: Unit, order: &[u8], slices: &mut Slices) -> Unit {
     let a = torskavel::build(unit, order, &mut slices.net, &mut slices.work);
-    let Unit { v1, v2, v3, v4, .. } = a.unit;
-    let number = slices.net[6 + WIDTH * (6 + WIDTH * 6)];
     let call: String = order.iter().map(|byte| format!(" {byte}")).collect();
-    let given = format!("multiplicities {v1} {v2} {v3} {v4}, number {number} at (6, 6, 6)");
-    report(&format!("build{call}"), a.number, a.place, given);
-    a.unit
+    got(&format!("build{call}"), a, slices)
 }
 
 fn inspect(unit: Unit, slices: &mut Slices) -> Unit {
@@ -91,8 +107,7 @@ fn main() {
     let mut slices = Slices::new();
     let mut unit = torskavel::empty_unit();
     answer(unit, [5, 5, 5], 2, &slices);
-    unit = build(unit, &[1, 5], &mut slices);
-    unit = build(unit, &[1, 3, 2], &mut slices);
+    unit = factory(unit, &mut slices);
     let mut file = std::fs::read(path).unwrap_or_default();
     unit = load(unit, &file, &mut slices);
     // The second is on the far face of axis 2, which has 3 entries: 6 is 3 times 2. The third is past it.
@@ -113,4 +128,7 @@ fn main() {
     slices.net[0] = 1;
     unit = inspect(unit, &mut slices);
     answer(unit, [4, 4, 4], 2, &slices);
+    unit = build(unit, &[1, 5], &mut slices);
+    // one repeat more than the factory's net has
+    build(unit, &[1, 3, 2, 1], &mut slices);
 }

@@ -28,6 +28,7 @@ static void show_constants(void) {
     SHOW(MAX_DENOMINATOR);
     SHOW(MAX_LIVE_DENOMINATOR);
     SHOW(NEVER_MEASURED);
+    SHOW(FACTORY_PLACES);
 }
 
 static void show_refusals(void) {

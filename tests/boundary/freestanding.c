@@ -1,7 +1,7 @@
 /* Linked with the archive and nothing else, not even a C library: memset and memcpy are all that it has to bring along. */
 #include "torskavel.h"
 
-enum { PLACES = TORSKAVEL_PLACES(2, 2, 2, 1), ENTRIES = TORSKAVEL_ENTRIES(3, 3, 3) };
+enum { PLACES = TORSKAVEL_FACTORY_PLACES, ENTRIES = TORSKAVEL_ENTRIES(3, 3, 3) };
 
 static uint32_t net[PLACES], defined[PLACES];
 static int32_t work[PLACES];
@@ -25,9 +25,11 @@ void *memcpy(void *restrict to, const void *restrict from, size_t count) {
     return to;
 }
 
-/* A net is built and inspected, a file loaded, a point answered by both calls: 0 where no call was refused. */
+/* A net built, copied and inspected, a file loaded, a point asked by both calls: 0 where none was refused. */
 static uint32_t run(void) {
     struct torskavel_unit_answer a = torskavel_build(torskavel_empty_unit(), order, 3, net, PLACES, work, PLACES);
+    if (a.number != 0) return a.number;
+    a = torskavel_factory(a.unit, net, PLACES);
     if (a.number != 0) return a.number;
     a = torskavel_inspect(a.unit, 2, 2, 2, 1, net, PLACES, defined, PLACES, work, PLACES);
     if (a.number != 0) return a.number;

@@ -1,4 +1,4 @@
-/* Unit records with any bytes, and NULL for empty slices. */
+/* Unit records with any bytes, and NULL for empty slices; of torskavel_factory they stand in factory.c. */
 #include "expect.h"
 #include "torskavel.h"
 

@@ -40,6 +40,10 @@ static void empty_unit(void) {
     unit = torskavel_empty_unit();
 }
 
+static void factory(void) {
+    changed = torskavel_factory(unit, net, PLACES);
+}
+
 /* The calls below go their longest way: an order in which every direction is taken up, then the defined net again. */
 static void build(void) {
     static const uint8_t order[] = {4, 1, 3, 2, 4, 1, 3, 2};
@@ -90,7 +94,7 @@ static void measure(const char *name, void (*call)(void), size_t most) {
     printf("%s %zu\n", name, deepest);
     EXPECT(deepest <= most);
     EXPECT(changed.number == 0 && answered.number == 0 && live.number == 0);
-    if (call == build || call == inspect || call == load) unit = changed.unit;
+    if (call == factory || call == build || call == inspect || call == load) unit = changed.unit;
 }
 
 static void *run(void *unused) {
@@ -98,6 +102,7 @@ static void *run(void *unused) {
     measure("load", load, TORSKAVEL_MAX_STACK_LOAD);
     measure("load_refused", load_refused, TORSKAVEL_MAX_STACK_LOAD);
     EXPECT(refused.number == TORSKAVEL_REFUSED_UNCERTAIN_GAP && refused.place == ENTRIES - 1);
+    measure("factory", factory, TORSKAVEL_MAX_STACK_LOAD);
     measure("build", build, TORSKAVEL_MAX_STACK_BUILD);
     measure("inspect", inspect, TORSKAVEL_MAX_STACK_BUILD);
     measure("answer", answer, TORSKAVEL_MAX_STACK);

@@ -19,7 +19,7 @@ from evaluator import ROOT, ask, live, net, widths
 
 STORED = ROOT / "examples/expected"
 FIELD = ROOT / "examples/machine.field"
-MIDDLE = (6, 6, 6)  # the place whose number a build shows
+SHOWN = (6, 6, 6)  # the place whose number is shown of a net
 
 
 def refused(number, place=0):
@@ -43,16 +43,20 @@ class Unit:
         self.damage = {}  # numbers that stand in the lent net in place of the defined ones
         self.lines = []
 
+    def factory(self):
+        self.tell("factory", self.got((2, 2, 2, 1)))
+
     def build(self, *order):
         bad = [position for position, byte in enumerate(order) if byte not in (1, 2, 3, 4)]
-        if bad:
-            answer = refused(2, bad[0])
-        else:
-            v = self.multiplicities = tuple(1 + order.count(direction) for direction in (1, 2, 3, 4))
-            (x, y, z), (w1, w2, _) = MIDDLE, widths(v)
-            number = net(v)[x + w1 * (y + w2 * z)]
-            answer = "multiplicities {} {} {} {}, number {} at {}".format(*v, number, MIDDLE)
-        self.tell("build " + " ".join(map(str, order)), answer)
+        v = tuple(1 + order.count(direction) for direction in (1, 2, 3, 4))
+        self.tell("build " + " ".join(map(str, order)), refused(2, bad[0]) if bad else self.got(v))
+
+    def got(self, v):
+        """The unit has got this net, over whatever the lent slice held."""
+        self.multiplicities, self.damage = v, {}
+        (x, y, z), (w1, w2, _) = SHOWN, widths(v)
+        number = net(v)[x + w1 * (y + w2 * z)]
+        return "multiplicities {} {} {} {}, number {} at {}".format(*v, number, SHOWN)
 
     def load(self, file):
         sizes = struct.unpack_from("<3H", file)
@@ -112,8 +116,7 @@ class Unit:
 def expected():
     unit = Unit()
     unit.point(5, 5, 5)
-    unit.build(1, 5)
-    unit.build(1, 3, 2)
+    unit.factory()
     file = bytearray(FIELD.read_bytes())
     unit.load(file)
     unit.point(5, 5, 5)
@@ -130,6 +133,8 @@ def expected():
     unit.damage[0] = 1
     unit.inspect()
     unit.point(4, 4, 4)
+    unit.build(1, 5)
+    unit.build(1, 3, 2, 1)
     return "".join(unit.lines)
 
 

@@ -85,12 +85,13 @@ LIAR = """
 #include "torskavel.h"
 typedef struct torskavel_{kind}point_answer answer;
 typedef struct torskavel_unit unit;
-answer true_answer(unit, const uint32_t *, size_t, const int16_t *, size_t, const uint16_t *, size_t,
+answer true_{kind}answer(unit, const uint32_t *, size_t, const int16_t *, size_t, const uint16_t *, size_t,
     uint32_t, uint32_t, uint32_t, uint32_t{type});
 answer torskavel_{kind}answer(unit held, const uint32_t *net, size_t net_length, const int16_t *c,
     size_t c_length, const uint16_t *u, size_t u_length, uint32_t x, uint32_t y, uint32_t z,
     uint32_t d{type}{flag}) {{
-    answer answered = true_answer(held, net, net_length, c, c_length, u, u_length, x, y, z, d{comma}{flag});
+    answer answered =
+        true_{kind}answer(held, net, net_length, c, c_length, u, u_length, x, y, z, d{comma}{flag});
     {lie}
     return answered;
 }}
@@ -99,11 +100,11 @@ EXACT = {"kind": "", "type": "", "flag": "", "comma": ""}
 LIVE = {"kind": "live_", "type": ", uint8_t", "flag": " with_uncertainty", "comma": ","}
 
 
-def liar(out, kind, lie):
-    """The program with such a library."""
+def liar(out, call, source):
+    """The program with such a library, in which the call is behind `true_` and its name."""
     out.mkdir()
-    (out / "liar.c").write_text(LIAR.format(**kind, lie=lie))
-    rename = f"--redefine-sym=torskavel_{kind['kind']}answer=true_answer"
+    (out / "liar.c").write_text(source)
+    rename = f"--redefine-sym=torskavel_{call}=true_{call}"
     cc = [os.environ.get("CC", "cc"), "-I", ROOT / "include", "-c", "-o", out / "liar.o", out / "liar.c"]
     rustc = ["rustc", "--edition", "2024", "-L", out, "-l", "static=c_api", "-o", out / "explain"]
     renamed = ["objcopy", rename, ROOT / "target/staticlib/libc_api.a", out / "libc_api.a"]
@@ -120,7 +121,8 @@ def liars(good, folder):
     lies = [(EXACT, *lie, live if lie[0] == "refusal" else sums) for lie in LIES.items()]
     lies += [(LIVE, *lie, live) for lie in LIVE_LIES.items()]
     for kind, name, lie, (said, complains) in lies:
-        program = liar(folder / (kind["kind"] + name), kind, lie)
+        call = f"{kind['kind']}answer"
+        program = liar(folder / (kind["kind"] + name), call, LIAR.format(**kind, lie=lie))
         text, complaint = run(good, "1", 2, 1, 1, 1, program=program, status=DIFFERS)
         run(good, "1", 2, 1, 1, 1, "--page", page, program=program, status=DIFFERS)
         if said not in text or said not in page.read_text() or complains not in complaint:

@@ -1,12 +1,13 @@
 """Holds docs/HOW-A-FIGURE-COMES-ABOUT.md to what `explain` prints: its boxes line by line and in order, the
 numbers and sums of its prose, its table of a step, and its lists of refusals."""
+import itertools
 import math
 import re
 import shlex
 from fractions import Fraction
 
 from evaluator import ROOT, net, prints, widths
-from explaining.scene import LARGEST, LARGEST_LIVE
+from explaining.scene import FACTORY, LARGEST, LARGEST_LIVE
 from explaining.refusals import NUMBERS
 from explaining.told import numbers, run, same, sections, stop
 
@@ -138,12 +139,12 @@ def check_refusals(by_heading):
             told[int(number)] = concerned
             same(f"refusal {number}", "limits", set(numbers(why + to_do)) - limits - {int(number), 3}, set())
     same("refusals", "numbers", sorted(told), NUMBERS)
-    for number, concerned in told.items():
-        text, _ = run(ROOT / FIELD, "132", "--refused", number, 0)
+    for (number, concerned), order in itertools.product(told.items(), ("132", FACTORY)):
+        text, _ = run(ROOT / FIELD, order, "--refused", number, 0)
         same(
             f"refusal {number}", "concerned", f"  concerns {concerned}" in sections(text)[1]["Refused"], True
         )
-    declared = re.findall(r"Refused by\s+([\d, \n*]+\d)", header)
+    declared = re.findall(r"Refused by\s+([\d, \n*]*\d)", header)
     checks = [row[1] for row in rows(by_heading["When the unit refuses"]) if row[0] != "call"]
     same("checks", "order", [numbers(check) for check in checks], [numbers(check) for check in declared])
     check_divisors({row[0]: row[1:] for row in rows(by_heading["Firmware acts"])})
@@ -172,4 +173,4 @@ def tried(_folder):
     check_step(by_heading["What the unit holds"])
     check_refusals(by_heading)
     same("the help line's page", "lines and sums enough", quotes.count > 200 and count > 20, True)
-    return len(NUMBERS)
+    return 2 * len(NUMBERS)

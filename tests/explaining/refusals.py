@@ -55,7 +55,7 @@ def outside(scene, point, divisor):
         ends = f"both included: cells {extent - 1} to {size - 1}, the last with the far face"
         wrong = "too low" if x < low else "past the far face"
         if size < extent:
-            never = "no point is inside with this order and this table, the far face neither"
+            never = "no point is inside with this net and this table, the far face neither"
             yield f"axis {axis}: {size} entries are fewer than the extent {extent}: {never}"
         elif not low <= x <= high:
             yield f"axis {axis}: {x} over {divisor} is {wrong}; inside are {low} to {high}, {ends}"
@@ -157,7 +157,7 @@ def orders(folder):
         b"-1",
         b"<&>",
     ]
-    bad += [b"1" * 9, b"123412341x", b"x" * 9, b"x" * 8, b"1" * 100000]
+    bad += [b"1" * 9, b"123412341x", b"?" * 9, b"?" * 8, b"1" * 100000]
     for order, printed in zip(bad, prints(bad)):
         number = printed.split()[1]
         first = next((i for i, byte in enumerate(order) if byte not in b"1234"), None)

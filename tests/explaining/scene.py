@@ -10,12 +10,15 @@ LARGEST_LIVE = (4096, 4096, 2840, 275, 64, 23, 11, 6, 4)  # and in a live call
 LIVE = 137438953472  # the largest denominator there, 2^37
 
 
+FACTORY = "factory"  # in place of an order
+
+
 class Scene:
-    """A table in a file, and the net of an order."""
+    """A table in a file, and the net of an order, or the factory's."""
 
     def __init__(self, path, order, sizes, numbers_of, gaps=()):
         self.path, self.order, self.sizes = path, order, sizes
-        self.v = tuple(1 + order.count(d) for d in "1234")
+        self.v = (2, 2, 2, 1) if order == FACTORY else tuple(1 + order.count(d) for d in "1234")
         self.m, self.extents = sum(self.v) - 3, [self.v[b] + self.v[3] for b in range(3)]
         n = math.prod(sizes)
         self.corrections, self.uncertainties = numbers_of(n)

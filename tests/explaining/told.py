@@ -91,7 +91,8 @@ class Told:
 
     def __init__(self, text):
         self.above, self.sections = sections(text)
-        file, order, point = (self.sections["The " + name] for name in ("file", "order", "point"))
+        name = "factory shape" if "The factory shape" in self.sections else "order"
+        file, order, point = (self.sections["The " + name] for name in ("file", name, "point"))
         *self.sizes, self.entries, self.gaps = matched(file, "sizes")
         *self.multiplicities, self.degree = matched(order, "multiplicities")
         self.extents, self.box = (matched(order, "extents")[i : i + 3] for i in (0, 3))

@@ -1,7 +1,10 @@
-//! What the library holds and answers: the net of an order, the block of a file, the answers of a point.
+//! What the library holds and answers: the factory's net or that of an order, the block of a file, the
+//! answers of a point.
 
 use crate::live;
-use crate::torskavel::{self, LivePointAnswer, MAX_ENTRIES, MAX_PLACES, NEVER_MEASURED, PointAnswer, Unit};
+use crate::torskavel::{
+    self, LivePointAnswer, MAX_ENTRIES, MAX_PLACES, NEVER_MEASURED, PointAnswer, Unit, UnitAnswer,
+};
 
 #[derive(Clone, Copy, PartialEq, Eq)]
 pub struct Refusal {
@@ -18,6 +21,7 @@ fn index_of([x, y, z]: [usize; 3], [w1, w2, _]: [usize; 3]) -> usize {
     x + w1 * (y + w2 * z)
 }
 
+#[derive(PartialEq, Eq)]
 pub struct Net {
     pub multiplicities: [usize; 4],
     numbers: Vec<u32>,
@@ -78,16 +82,26 @@ impl Block {
     }
 }
 
-/// The net that an order builds, with room for any.
-pub fn build(unit: Unit, order: &[u8]) -> (Unit, Result<Net, Refusal>) {
-    let mut numbers = vec![0; MAX_PLACES];
-    let mut work = vec![0; MAX_PLACES];
-    let answer = torskavel::build(unit, order, &mut numbers, &mut work);
+/// What a call gave that writes a net.
+fn given(answer: UnitAnswer, numbers: Vec<u32>) -> (Unit, Result<Net, Refusal>) {
     if answer.number != 0 {
         return (answer.unit, Err(Refusal { number: answer.number, place: answer.place }));
     }
     let Unit { v1, v2, v3, v4, .. } = answer.unit;
     (answer.unit, Ok(Net { multiplicities: [v1, v2, v3, v4].map(usize::from), numbers }))
+}
+
+/// The net that an order builds, with room for any.
+pub fn build(unit: Unit, order: &[u8]) -> (Unit, Result<Net, Refusal>) {
+    let mut numbers = vec![0; MAX_PLACES];
+    let mut work = vec![0; MAX_PLACES];
+    given(torskavel::build(unit, order, &mut numbers, &mut work), numbers)
+}
+
+/// The factory's net, which is copied, into as much room.
+pub fn factory(unit: Unit) -> (Unit, Result<Net, Refusal>) {
+    let mut numbers = vec![0; MAX_PLACES];
+    given(torskavel::factory(unit, &mut numbers), numbers)
 }
 
 pub fn load(unit: Unit, file: &[u8]) -> (Unit, Result<Block, Refusal>) {

@@ -1,4 +1,4 @@
-//! `explain`: how the unit comes to its figure, for any field file, order and point. Net, block and answer
+//! `explain`: how the unit comes to its figure, for any field file, net and point. Net, block and answer
 //! are the library's; the numbers on the way are worked out here from net and block, and must come to its
 //! answer.
 
@@ -17,6 +17,7 @@ mod placing;
 mod refusals;
 mod report;
 mod request;
+mod source;
 mod sums;
 mod svg;
 mod tables;
@@ -90,12 +91,13 @@ fn explain(request: &Request) -> Result<End, String> {
         None => print(&text::written(&parts))?,
         Some(path) => write_page(path, &request.file, &page::written(&parts))?,
     }
-    if matches!(walk.outcome, Outcome::Differs(_)) {
-        complain("the sums do not come to the library's answer");
-        return Ok(End::Differs);
-    }
-    if walk.live.is_some_and(|live| !live.agrees()) {
-        complain("the live call does not agree with the exact call");
+    let differs = [
+        (!walk.as_built, "the factory's net is not the one that the order 132 builds"),
+        (matches!(walk.outcome, Outcome::Differs(_)), "the sums do not come to the library's answer"),
+        (walk.live.is_some_and(|live| !live.agrees()), "the live call does not agree with the exact call"),
+    ];
+    if let Some((_, message)) = differs.iter().find(|(differs, _)| *differs) {
+        complain(message);
         return Ok(End::Differs);
     }
     Ok(if matches!(walk.outcome, Outcome::Refused(_)) { End::Refused } else { End::Told })

@@ -40,53 +40,67 @@ fn entry(walk: &Walk, place: usize) -> String {
 fn net_place(walk: &Walk, place: usize) -> String {
     match &walk.net {
         Ok(net) if place < net.places() => format!("net place {}", bracketed(&place_of(place, net.widths()))),
-        _ => format!("net place number {place}, which this order's net does not have"),
+        _ => format!("net place number {place}, which this net does not have"),
     }
 }
 
 fn of_order(walk: &Walk, number: u32, place: usize) -> Words {
+    let no_order = "the factory's net is copied without an order: find out what other net was to be built, and \
+                    give its order in place of factory";
     if number == refused::ORDER_LENGTH {
-        let to_do = "shorten the order: with 8 repeats the degree is 9, the highest";
+        let to_do =
+            walk.source.either(no_order, "shorten the order: with 8 repeats the degree is 9, the highest");
         return words_of("the order has more than 8 repeats", FITTER, to_do);
     }
-    let byte = match walk.order_bytes.get(place).map(|byte| byte.wrapping_add(b'0')) {
+    let byte = match walk.source.byte(place).map(|byte| byte.wrapping_add(b'0')) {
         Some(byte) if byte.is_ascii_graphic() => format!("is '{}', and not", char::from(byte)),
         _ => "is not".to_string(),
     };
     let to_do = "write each repeat as 1, 2, 3 or 4 with nothing between, as 132; a controller sends the \
                  bytes 1 to 4, not the digits' codes 49 to 52";
-    words_of(format!("byte {place} of the order, counted from 0, {byte} 1, 2, 3 or 4"), FITTER, to_do)
+    let wrong = format!("byte {place} of the order, counted from 0, {byte} 1, 2, 3 or 4");
+    words_of(wrong, FITTER, walk.source.either(no_order, to_do))
+}
+
+fn of_room(walk: &Walk) -> Words {
+    let wants = walk.net.as_ref().map_or(String::new(), |net| format!(", {} for this net", net.places()));
+    let no_work = walk.source.either("; to copy the factory's net no work slice is wanted", "");
+    let to_do = format!("lend W1 x W2 x W3 places for the net and for each work slice{wants}{no_work}");
+    words_of("the memory lent for the net, or for the work on it, is too small for its box", FIRMWARE, to_do)
 }
 
 fn of_net(walk: &Walk, number: u32, place: usize) -> Words {
+    let source = walk.source;
     match number {
         refused::MULTIPLICITIES => words_of(
             "a multiplicity is 0, or the four add up to more than 12",
             FITTER,
-            "hand in the four multiplicities that came with the net",
+            source.either(
+                "hand in 2 2 2 1, which the factory's net has",
+                "hand in the four multiplicities that came with the net",
+            ),
         ),
-        refused::NET_LENGTH => {
-            let wants =
-                walk.net.as_ref().map_or(String::new(), |net| format!(", {} for this order", net.places()));
-            let to_do = format!("lend W1 x W2 x W3 places for the net and for each work slice{wants}");
-            words_of(
-                "the memory lent for the net, or for the work on it, is too small for its box",
-                FIRMWARE,
-                to_do,
-            )
-        }
+        refused::NET_LENGTH => of_room(walk),
         refused::NET_DIFFERS => words_of(
             format!("the net differs from the defined one, first at {}", net_place(walk, place)),
             FITTER,
-            "copy the net again, or build it by its order",
+            source.either(
+                "have the factory's net copied again",
+                "get the net again, or build it by its order",
+            ),
         ),
-        refused::NO_NET => {
-            words_of("the unit has no net", FITTER, "build a net by its order, or have one inspected")
-        }
+        refused::NO_NET => words_of(
+            "the unit has no net",
+            FITTER,
+            source.either("have the factory's net copied", "build a net by its order, or have one inspected"),
+        ),
         _ => words_of(
             "the net lent for this point is damaged: its shares do not add up",
             FIRMWARE,
-            "inspect the net (14 tells where it differs) and build it again; the memory may be bad",
+            format!(
+                "inspect the net (14 tells where it differs) and {} again; the memory may be bad",
+                source.either("have the factory's copied", "build it")
+            ),
         ),
     }
 }
@@ -139,7 +153,7 @@ fn outside(walk: &Walk, placing: Option<&Placing>) -> Vec<String> {
     let on_axis = |b: usize| {
         let (extent, size, axis) = (extents[b], block.sizes[b], b + 1);
         if size < extent {
-            let never = "no point is inside with this order and this table, the far face neither";
+            let never = "no point is inside with this net and this table, the far face neither";
             return Some(format!("axis {axis}: {size} entries are fewer than the extent {extent}: {never}"));
         }
         let first = extent - 1;
@@ -207,8 +221,8 @@ fn tell(walk: &Walk, Refusal { number, place }: Refusal, all: bool, parts: &mut 
     line(format!("to do: {to_do}"));
 }
 
-/// Every refusal of the walk: of the order, of the file, or of the point; or the one that was asked about, told
-/// once where order or file meet it too.
+/// Every refusal of the walk: of the net, of the file, or of the point; or the one that was asked about, told
+/// once where net or file meet it too.
 pub fn of(walk: &Walk) -> Vec<Refusal> {
     let refused = [walk.net.as_ref().err(), walk.block.as_ref().err()].into_iter().flatten().copied();
     let mut refusals: Vec<_> = refused.collect();

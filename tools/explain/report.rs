@@ -5,6 +5,7 @@ use crate::library::{Block, Figure, Net};
 use crate::parts::{Part, bracketed, listed, words};
 use crate::placing::{Placing, Window, plain_reading};
 use crate::request::Question;
+use crate::source::Source;
 use crate::sums::{Counted, LocalPlace, Sums, factorial};
 use crate::walk::{Outcome, Walk};
 use crate::{cell_picture, layers_picture, live, refusals, tables};
@@ -21,12 +22,11 @@ fn line(parts: &mut Vec<Part>, text: String) {
 }
 
 fn title(walk: &Walk) -> String {
-    let order = if walk.order.is_empty() { "without a repeat" } else { &walk.order };
     let asked = match walk.question {
         Question::Point { coordinates, divisor } => format!("point {} over {divisor}", words(&coordinates)),
         Question::Refusal { number, place } => format!("refusal {number}, place {place}"),
     };
-    format!("{}, order {order}, {asked}", walk.file)
+    format!("{}, {}, {asked}", walk.file, walk.source.title())
 }
 
 /// What the walk comes to, to stand above it.
@@ -79,9 +79,23 @@ fn file(walk: &Walk, all: bool, parts: &mut Vec<Part>) {
     }
 }
 
-fn order(net: &Net, parts: &mut Vec<Part>) {
+/// Where the net comes from. The words of the factory's net are only said after a build has given the same.
+fn source(walk: &Walk, parts: &mut Vec<Part>) {
+    match walk.source {
+        Source::Order { .. } => heading(parts, "The order"),
+        Source::Factory => {
+            heading(parts, "The factory shape");
+            let said = match walk.as_built {
+                true => "the net is copied ready-made, with the same numbers as the order 132 builds",
+                false => "THE COPIED NET IS NOT THE ONE THAT THE ORDER 132 BUILDS",
+            };
+            line(parts, said.to_string());
+        }
+    }
+}
+
+fn shape(net: &Net, parts: &mut Vec<Part>) {
     let m = net.degree();
-    heading(parts, "The order");
     line(parts, format!("multiplicities {}, degree {m}", words(&net.multiplicities)));
     line(
         parts,
@@ -213,7 +227,8 @@ pub fn parts(walk: &Walk, all: bool) -> Vec<Part> {
     parts.extend(summary(walk).map(Part::Line));
     file(walk, all, &mut parts);
     if let Ok(net) = &walk.net {
-        order(net, &mut parts);
+        source(walk, &mut parts);
+        shape(net, &mut parts);
     }
     if let (Ok(net), Ok(block)) = (&walk.net, &walk.block) {
         if let Some(placing) = &walk.placing {

@@ -1,6 +1,7 @@
 //! The command line.
 
 use crate::parts::shown;
+use crate::source::Source;
 use std::ffi::{OsStr, OsString};
 use std::os::unix::ffi::OsStrExt;
 use std::path::PathBuf;
@@ -9,19 +10,21 @@ pub const USAGE: &str = "\
 usage: explain FILE ORDER X Y Z D [--all] [--page OUT.html]
        explain FILE ORDER --refused NUMBER PLACE [--all] [--page OUT.html]
 
-Tells how the unit comes to its figure at the point X/D, Y/D, Z/D, with the table of a field file and the net
-of an order of repeats, written as digits: 132 is the factory's, '' is the order without a repeat. X, Y, Z and
-D are whole numbers from 0 to 4294967295.
+Tells how the unit comes to its figure at the point X/D, Y/D, Z/D, with the table of a field file and a net.
+ORDER is the word factory for a unit of the factory shape, 2 2 2 1, which nearly every unit has: its net is
+copied ready-made. For any other it is the order of repeats that builds the net, written as digits: 1324, or
+'' for the order without a repeat; 132 builds the numbers that factory copies. X, Y, Z and D are whole numbers
+from 0 to 4294967295.
 
   --all             also lists the local places whose weights multiply to 0, the entries of the window without
                     a share, and every entry never measured or refused by 16
   --page OUT.html   writes a page with pictures, to look at, print or send, and not the text
   --refused NUMBER PLACE
-                    tells what a refusal means that a unit with this file and this order gave
+                    tells what a refusal means that a unit with this file and this net gave
 
 Ends with 0 where the point was answered or the refusal told, 1 where the file, the order or the point is
 refused, 2 where the command line is wrong or something cannot be read or written, 3 where the sums do not
-come to the library's answer, or its live call does not agree with it.
+come to the library's answer, its live call does not agree with it, or 132 does not build the factory's net.
 ";
 
 #[derive(Clone, Copy)]
@@ -32,18 +35,10 @@ pub enum Question {
 
 pub struct Request {
     pub file: PathBuf,
-    /// As typed.
-    pub order: OsString,
+    pub source: Source,
     pub question: Question,
     pub all: bool,
     pub page: Option<PathBuf>,
-}
-
-impl Request {
-    /// The digits 1 to 4 as the bytes 1 to 4, and every other byte as one that is none of these.
-    pub fn order_bytes(&self) -> Vec<u8> {
-        self.order.as_bytes().iter().map(|byte| byte.wrapping_sub(b'0')).collect()
-    }
 }
 
 pub enum Asked {
@@ -127,6 +122,6 @@ pub fn read(arguments: impl Iterator<Item = OsString>) -> Result<Asked, String> 
         Some(given) => refusal(given, rest)?,
         None => point(rest)?,
     };
-    let (file, order) = (file.into(), order.clone());
-    Ok(Asked::Explain(Request { file, order, question, all: words.all, page: words.page }))
+    let (file, source) = (file.into(), Source::read(order)?);
+    Ok(Asked::Explain(Request { file, source, question, all: words.all, page: words.page }))
 }

@@ -1,15 +1,16 @@
-//! The whole way from file, order and point to the answer, or to the refusal that ends it.
+//! The whole way from file, net and point to the answer, or to the refusal that ends it.
 
 use crate::library::{self, Block, Figure, Net, Refusal};
 use crate::live::Live;
 use crate::parts::shown;
 use crate::placing::{Placing, Window};
 use crate::request::{Question, Request};
+use crate::source::Source;
 use crate::sums::Sums;
 use crate::torskavel::{self, MAX_FILE, Unit};
 use crate::uncertain_gaps;
 
-pub struct Walk {
+pub struct Walk<'a> {
     /// The file's name, without its folders.
     pub file: String,
     /// None where it is longer than any field file.
@@ -18,9 +19,10 @@ pub struct Walk {
     pub head: Option<[usize; 3]>,
     /// The entries that 16 is about, by their index, with their uncertainties.
     pub uncertain_gaps: Vec<(usize, u16)>,
-    pub order: String,
-    pub order_bytes: Vec<u8>,
+    pub source: &'a Source,
     pub net: Result<Net, Refusal>,
+    /// False where the net was copied and is not the one that a build gives.
+    pub as_built: bool,
     pub block: Result<Block, Refusal>,
     pub question: Question,
     /// Where there is a divisor, a net and a table.
@@ -46,10 +48,11 @@ fn head(bytes: &[u8]) -> Option<[usize; 3]> {
     Some([0, 2, 4].map(|at| u16::from_le_bytes([bytes[at], bytes[at + 1]]).into()))
 }
 
-impl Walk {
-    pub fn new(request: &Request, bytes: &[u8]) -> Walk {
-        let order_bytes = request.order_bytes();
-        let (unit, net) = library::build(torskavel::empty_unit(), &order_bytes);
+impl<'a> Walk<'a> {
+    pub fn new(request: &'a Request, bytes: &[u8]) -> Walk<'a> {
+        let (source, empty) = (&request.source, torskavel::empty_unit());
+        let (unit, net) = source.net(empty);
+        let as_built = source.as_built(empty, &net);
         let (unit, block) = library::load(unit, bytes);
         let name = request.file.file_name().unwrap_or(request.file.as_os_str());
         let mut walk = Walk {
@@ -57,9 +60,9 @@ impl Walk {
             file_length: Some(bytes.len()).filter(|&length| length <= MAX_FILE),
             head: head(bytes),
             uncertain_gaps: uncertain_gaps::found(bytes, head(bytes)),
-            order: shown(&request.order),
-            order_bytes,
+            source,
             net,
+            as_built,
             block,
             question: request.question,
             placing: None,

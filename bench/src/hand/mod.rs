@@ -6,6 +6,7 @@
 //! several tuned shapes.
 
 mod build;
+mod factory;
 mod inspect;
 mod load;
 mod point;
@@ -17,6 +18,7 @@ mod split;
 mod tests;
 
 pub use build::{build, build_tuned};
+pub use factory::{Factory, factory, factory_tuned};
 pub use inspect::{defined_order, inspect, inspect_tuned};
 pub use load::{Load, load, load_tuned};
 pub use point::{Call, Fraction, LIVE_TUNED, TUNED, answer, live_answer};

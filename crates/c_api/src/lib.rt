@@ -7,6 +7,7 @@ ghost use lib.ListN.{length};
 ghost use Rattle.spline.specs.Multiplicities.{multiplicities};
 ghost use Rattle.net.specs.Build.{buildAnswer, buildNet, buildWork};
 ghost use Rattle.inspection.specs.Inspect.{inspectAnswer};
+ghost use Rattle.factory.specs.Factory.{factoryAnswer, factoryNet};
 ghost use Rattle.field.specs.Load.{loadAnswer, loadCorrections, loadUncertainties};
 ghost use Rattle.point.specs.Answer.{pointAnswer};
 ghost use Rattle.live.specs.Answer.{liveAnswer};
@@ -73,6 +74,16 @@ pub extern "C" fn torskavel_inspect(
         unit,
         inspection::inspect(flat::unit_of(unit), v1, v2, v3, v4, net, defined, work),
     )
+}
+
+// `factory::copy`.
+#[no_mangle]
+pub extern "C" fn torskavel_factory(unit: FlatUnit, net: &mut [u32]) -> FlatUnitAnswer
+    ensures answer { λ r. ⌜ r
+        ≡ flatNet unit (factoryAnswer (unitOf unit) (length (now (net .entry)))) ⌝ }
+    ensures net { λ _. ⌜ now (net .exit) ≡ factoryNet (now (net .entry)) ⌝ }
+{
+    flat::flat_net(unit, factory::copy(flat::unit_of(unit), net))
 }
 
 // `field::load`.

@@ -1,5 +1,6 @@
 -- A net that was built or passed is the defined one, and so the one to which the rule leads.
 use mathlib.Core.List.{List, map}
+use mathlib.Core.Path.{refl}
 use Prim.Native.Nat.{ℕ}
 use Rattle.spline.proofs.Box.{spread-list}
 use Rattle.spline.proofs.Defined.{defined-low}
@@ -8,24 +9,29 @@ use Rattle.spline.proofs.Multiplicities.{Positive, limits-positive, order-posit
 use Rattle.spline.specs.Box.{spread, width}
 use Rattle.spline.specs.Build.{direction}
 use Rattle.spline.specs.Defined.{defined, definedOrder}
-use Rattle.spline.specs.Multiplicities.{Multiplicities}
+use Rattle.spline.specs.Multiplicities.{Multiplicities, allowed}
 use Rattle.unit.proofs.Limits.{allowed-limits}
+use Rattle.factory.specs.Factory.{factoryShape}
+use Rattle.claims.proofs.Copied.{copied-holds}
 use Rattle.claims.proofs.Inspector.{passed-allowed, passed-holds}
 use Rattle.claims.proofs.Orders.{built-holds}
 use Rattle.claims.proofs.Rule.{one-net}
 use Rattle.claims.specs.Demands.{Held}
 use Rattle.claims.specs.Nets.{HoldsDefined}
-use Rattle.claims.specs.Points.{BuiltOrPassed, built, passed}
+use Rattle.claims.specs.Points.{BuiltOrPassed, built, copied, passed}
 
 -- a net that was built or passed is the defined one of its multiplicities
 pub holds-of : {v : Multiplicities} {s : List ℕ} → BuiltOrPassed v s → HoldsDefined v s
 holds-of (built order net workLength h) = built-holds order net workLength h
 holds-of (passed v net definedLength workLength h) = passed-holds v net definedLength workLength h
+holds-of (copied net h) = copied-holds net h
 
 positive-of : {v : Multiplicities} {s : List ℕ} → BuiltOrPassed v s → Positive v
+unfolding allowed
 positive-of (built order net workLength h) = order-positive (map direction order)
 positive-of (passed v net definedLength workLength h) =
     limits-positive (allowed-limits v (passed-allowed v net definedLength workLength h))
+positive-of (copied net h) = limits-positive (allowed-limits factoryShape refl)
 
 pub held : Held
 unfolding defined

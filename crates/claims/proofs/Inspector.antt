@@ -15,7 +15,7 @@ use Rattle.sums.specs.Search.{Found, at, first, nowhere}
 use Rattle.spline.proofs.Box.{length-netList, netList-at}
 use Rattle.spline.proofs.Inspection.{list-obeys}
 use Rattle.spline.proofs.Multiplicities.{Positive, limits-positive}
-use Rattle.spline.specs.Box.{netList, places, width}
+use Rattle.spline.specs.Box.{definedNumber, netList, places, width}
 use Rattle.spline.specs.Defined.{defined}
 use Rattle.spline.specs.Multiplicities.{HasRepeat, Multiplicities, allowed}
 use Rattle.spline.specs.Place.{Direction}
@@ -25,8 +25,9 @@ use Rattle.unit.specs.Checks.{passedOr, refusal, refuseAt}
 use Rattle.unit.specs.Unit.{withNet}
 use Rattle.unit.specs.declared.Checked.{Checked}
 use Rattle.unit.specs.declared.Checked.the-variants.{Passed, Stopped}
+use Rattle.unit.specs.declared.Unit.{Unit}
 use Rattle.unit.specs.declared.UnitAnswer.the-variants.{Changed, Refused}
-use Rattle.inspection.specs.Inspect.{definedNumber, differsFrom, inspectAnswer, inspectChecks}
+use Rattle.inspection.specs.Inspect.{differsFrom, inspectAnswer, inspectChecks}
 use Rattle.claims.proofs.Plain.{plain-defined, repeat-or-none}
 use Rattle.claims.proofs.Stopped.{at-stopped, if-other}
 use Rattle.claims.specs.Demands.{Differing, Inspector, Lowest}
@@ -141,6 +142,17 @@ module _ (v : Multiplicities) (net : List ℕ) (definedLength workLength : ℕ) 
       let f = if-other 4 14 i short _ (λ z. omega arith) e in
       found-lowest v net i (at-stopped 14 i (difference v net) f)
 
+-- an inspection passes the defined net
+pub holds-passes : (u : Unit) (v : Multiplicities) (net : List ℕ) (definedLength workLength : ℕ)
+    → allowed v ≡ true
+    → places (width v) ≤ length net → places (width v) ≤ definedLength → places (width v) ≤ workLength
+    → HoldsDefined v net → inspectAnswer u v net definedLength workLength ≡ Changed (withNet u v)
+unfolding inspectAnswer
+holds-passes u v net definedLength workLength fine room room₁ room₂ h =
+    ap (λ (k : Checked). passedOr k (Changed (withNet u v)) Refused)
+    (checks-are v net definedLength workLength fine room room₁ room₂
+    ∙ ap (λ (f : Found). refuseAt 14 f Passed) (holds-found v net h))
+
 -- ---- the statements
 
 pub inspector : Inspector
@@ -148,10 +160,7 @@ unfolding inspectAnswer
 inspector u v net definedLength workLength fine room room₁ room₂ =
     let right = right-numbers v (limits-positive (allowed-limits v fine)) net room in (
       λ h. right .0 (passed-holds v net definedLength workLength (unit-changed _ (withNet u v) h .0)),
-      λ r.
-          ap (λ (k : Checked). passedOr k (Changed (withNet u v)) Refused)
-          (checks-are v net definedLength workLength fine room room₁ room₂
-          ∙ ap (λ (f : Found). refuseAt 14 f Passed) (holds-found v net (right .1 r))),
+      λ r. holds-passes u v net definedLength workLength fine room room₁ room₂ (right .1 r),
     )
 
 pub lowest : Lowest

@@ -5,6 +5,7 @@ pub mod Plain
 pub mod Stopped
 pub mod Inspector
 pub mod OneDirection
+pub mod Copied
 pub mod Held
 pub mod WindowShares
 pub mod Fraction
@@ -19,3 +20,4 @@ pub mod LiveExact
 pub mod Unchanged
 pub mod Loads
 pub mod GapsUncounted
+pub mod Factory

@@ -11,6 +11,7 @@ use Rattle.spline.proofs.Orders.{order-defined}
 use Rattle.spline.specs.Box.{netList, places}
 use Rattle.spline.specs.Build.{direction, orderNet}
 use Rattle.spline.specs.Multiplicities.{Multiplicities, orderMultiplicities}
+use Rattle.spline.specs.Place.{Axis, Net}
 use Rattle.unit.proofs.Limits.{limits-allowed}
 use Rattle.unit.specs.Checks.{passedOr}
 use Rattle.unit.specs.Unit.{hasNet, withNet}
@@ -27,6 +28,11 @@ use Rattle.claims.proofs.Bytes.{order-passes, same-good, same-multiplic
 use Rattle.claims.specs.Demands.{Orders}
 use Rattle.claims.specs.Nets.{BuildsDefined, HoldsDefined}
 
+-- a slice whose box was filled with a net begins with its list
+pub laid : (W : Axis → ℕ) (C : Net) (net : List ℕ)
+    → take (places W) (netList W C ++ drop (places W) net) ≡ netList W C
+laid W C net = take-at (netList W C) (drop (places W) net) (places W) (length-netList W C)
+
 -- a build that passed its checks leaves what the order builds in the first places of the net slice
 pub built-list : (order net : List ℕ) (workLength : ℕ) → buildChecks order (length net) workLength ≡ Passed
     → take (places (orderWidth order)) (buildNet order net workLength)
@@ -36,7 +42,7 @@ built-list order net workLength h =
     let w = orderWidth order in
     let list = netList w (orderNet order) in
     ap (λ (c : Checked). take (places w) (passedOr c (list ++ drop (places w) net) (λ _. net))) h
-    ∙ take-at list (drop (places w) net) (places w) (length-netList w (orderNet order))
+    ∙ laid w (orderNet order) net
 
 -- which is the defined net of the order's multiplicities
 pub built-holds : (order net : List ℕ) (workLength : ℕ) → buildChecks order (length net) workLength ≡ Passed

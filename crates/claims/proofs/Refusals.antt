@@ -10,7 +10,7 @@ use lib.IntN.{ℤ}
 use lib.ListN.{getD, length}
 use Rattle.sums.proofs.Search.{false-true}
 use Rattle.sums.specs.Search.{Found, at, first, nowhere}
-use Rattle.spline.specs.Box.{places, width}
+use Rattle.spline.specs.Box.{definedNumber, places, width}
 use Rattle.spline.specs.Multiplicities.{Multiplicities, allowed, degree}
 use Rattle.spline.specs.Place.{Axis}
 use Rattle.unit.proofs.Checks.{unit-refused}
@@ -23,7 +23,8 @@ use Rattle.unit.specs.declared.Refusal.{Refusal}
 use Rattle.unit.specs.declared.Unit.{Unit}
 use Rattle.net.specs.Build.{buildAnswer}
 use Rattle.net.specs.Order.{badByte, buildChecks, orderChecks, orderPlaces}
-use Rattle.inspection.specs.Inspect.{definedNumber, differsFrom, inspectAnswer, inspectChecks}
+use Rattle.inspection.specs.Inspect.{differsFrom, inspectAnswer, inspectChecks}
+use Rattle.factory.specs.Factory.{factoryAnswer, factoryChecks, factoryPlaces}
 use Rattle.field.specs.File.{correction, entryCount, fileLength, headerLength, size1, size2, size3}
 use Rattle.field.specs.File.{uncertainty}
 use Rattle.field.specs.Load.{gapCheck, layoutChecks, limitCheck, loadAnswer, loadChecks}
@@ -41,8 +42,8 @@ use Rattle.point.specs.declared.PointAnswer.the-variants.{Refused}
 use Rattle.live.specs.Answer.{liveAnswer, liveChecks}
 use Rattle.claims.proofs.Live.{live-stopped}
 use Rattle.claims.specs.Demands.{NoPlace, NotZero, Numbers}
-use Rattle.claims.specs.Refusals.{Met, by-blending, by-build, by-inspection, by-live, by-load}
-use Rattle.claims.specs.Refusals.{by-placing, by-point, listed, speaksOfPlace}
+use Rattle.claims.specs.Refusals.{Met, by-blending, by-build, by-factory, by-inspection, by-live}
+use Rattle.claims.specs.Refusals.{by-load, by-placing, by-point, listed, speaksOfPlace}
 
 -- ---- checks in a row
 
@@ -89,6 +90,10 @@ inspect-numbered v net definedLength workLength =
     if-numbered 3 (not (allowed v)) _ refl
     (if-numbered 4 (ltb (length net) n || ltb definedLength n || ltb workLength n) _ refl
     (at-numbered 14 (first n (differsFrom (definedNumber v) net)) Passed refl refl tt))
+
+factory-numbered : (netLength : ℕ) → Numbered (factoryChecks netLength)
+unfolding factoryChecks
+factory-numbered netLength = if-numbered 4 (ltb netLength factoryPlaces) Passed refl tt
 
 load-numbered : (file : List ℕ) (correctionsLength uncertaintiesLength : ℕ)
     → Numbered (loadChecks file correctionsLength uncertaintiesLength)
@@ -193,13 +198,15 @@ value-numbered v n net corrections uncertainties q D h =
     h
 
 right : (r : Refusal) → Met r → Right r
-unfolding buildAnswer inspectAnswer loadAnswer placeAnswer blendAnswer pointAnswer liveAnswer
+unfolding buildAnswer inspectAnswer factoryAnswer loadAnswer placeAnswer blendAnswer pointAnswer liveAnswer
 right r (by-build u order netLength workLength h) =
     stopped-numbered (build-numbered order netLength workLength)
     (unit-refused (buildChecks order netLength workLength) _ h)
 right r (by-inspection u v net definedLength workLength h) =
     stopped-numbered (inspect-numbered v net definedLength workLength)
     (unit-refused (inspectChecks v net definedLength workLength) _ h)
+right r (by-factory u netLength h) =
+    stopped-numbered (factory-numbered netLength) (unit-refused (factoryChecks netLength) _ h)
 right r (by-load u file corrections uncertainties h) =
     stopped-numbered (load-numbered file (length corrections) (length uncertainties))
     (unit-refused (loadChecks file (length corrections) (length uncertainties)) _ h)

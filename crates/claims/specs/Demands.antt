@@ -77,7 +77,7 @@ FlatNumbers =
 
 -- Section 14.1, what a refusal leaves: a refused build leaves the net slice and the work slice as found, a
 -- refused load both block slices. A point call writes to no slice, an inspection only to its two work slices;
--- and a refused answer carries no unit.
+-- and a refused answer carries no unit. `FactoryShort` says it of copies.
 abbrev pub Unchanged : Type 0
 Unchanged =
     (r : Refusal)

@@ -5,3 +5,4 @@ pub mod Figures
 pub mod Demands
 pub mod Live
 pub mod Loads
+pub mod Factory

@@ -1,11 +1,11 @@
--- What the statements on builds and inspections cite: Sections 14.3, 14.4.
+-- What the statements on builds, inspections and copies cite: Sections 14.3, 14.4, 14.9.
 use mathlib.Core.Bool.{cond, true}
 use mathlib.Core.List.{List, [], _∷_}
 use mathlib.Core.Path.{_≡_}
 use Prim.Native.Nat.{_<_, suc, ℕ}
 use lib.Dec.{eqb}
 use lib.ListN.{getD, length, take}
-use Rattle.spline.specs.Box.{netList, places, spread, width}
+use Rattle.spline.specs.Box.{definedNumber, netList, places, spread, width}
 use Rattle.spline.specs.Build.{simple}
 use Rattle.spline.specs.Defined.{defined}
 use Rattle.spline.specs.Multiplicities.{HasRepeat, Multiplicities, degree, fewer}
@@ -15,7 +15,6 @@ use Rattle.unit.specs.Unit.{hasNet, withNet}
 use Rattle.unit.specs.declared.Unit.{Unit}
 use Rattle.unit.specs.declared.UnitAnswer.the-variants.{Changed}
 use Rattle.net.specs.Build.{buildAnswer, buildNet}
-use Rattle.inspection.specs.Inspect.{definedNumber}
 
 -- Section 14.3: how often a byte stands in an order
 abbrev pub countByte : ℕ → List ℕ → ℕ

@@ -11,14 +11,17 @@ use Rattle.unit.specs.declared.Checked.the-variants.{Passed}
 use Rattle.net.specs.Build.{buildNet}
 use Rattle.net.specs.Order.{buildChecks}
 use Rattle.inspection.specs.Inspect.{inspectChecks}
+use Rattle.factory.specs.Factory.{factoryChecks, factoryNet, factoryShape}
 
 -- Section 14.5: the multiplicities and the numbers of a net that was built or passed, the net slice after a
--- build or at an inspection that was not refused.
+-- build or at an inspection that was not refused. The factory's net counts as built where it was copied.
 pub data BuiltOrPassed : Multiplicities → List ℕ → Type 0 where
   built : (order net : List ℕ) (workLength : ℕ) → buildChecks order (length net) workLength ≡ Passed
       → BuiltOrPassed (orderMultiplicities order) (buildNet order net workLength)
   passed : (v : Multiplicities) (net : List ℕ) (definedLength workLength : ℕ)
       → inspectChecks v net definedLength workLength ≡ Passed → BuiltOrPassed v net
+  copied : (net : List ℕ) → factoryChecks (length net) ≡ Passed
+      → BuiltOrPassed factoryShape (factoryNet net)
 
 -- Section 14.5: the first n corrections are all c, and c is not the mark of a gap
 pub record Constant (n : ℕ) (corrections : List ℤ) (c : ℤ) : Type 0 where

@@ -11,6 +11,7 @@ use Rattle.unit.specs.declared.Refusal.{Refusal}
 use Rattle.unit.specs.declared.Unit.{Unit}
 use Rattle.net.specs.Build.{buildAnswer}
 use Rattle.inspection.specs.Inspect.{inspectAnswer}
+use Rattle.factory.specs.Factory.{factoryAnswer}
 use Rattle.field.specs.Load.{loadAnswer}
 use Rattle.placing.specs.Place.{placeAnswer}
 use Rattle.blending.specs.Blend.{blendAnswer}
@@ -35,6 +36,7 @@ pub data Met (r : Refusal) : Type 0 where
       → buildAnswer u order netLength workLength ≡ units.Refused r → Met r
   by-inspection : (u : Unit) (v : Multiplicities) (net : List ℕ) (definedLength workLength : ℕ)
       → inspectAnswer u v net definedLength workLength ≡ units.Refused r → Met r
+  by-factory : (u : Unit) (netLength : ℕ) → factoryAnswer u netLength ≡ units.Refused r → Met r
   by-load : (u : Unit) (file : List ℕ) (corrections : List ℤ) (uncertainties : List ℕ)
       → loadAnswer u file corrections uncertainties ≡ units.Refused r → Met r
   by-placing : (u : Unit) (x y z D : ℕ) → placeAnswer u x y z D ≡ placings.Refused r → Met r

@@ -21,7 +21,7 @@ use Rattle.flat.specs.declared.FlatUnit.{FlatUnit}
 pub empty-stands : unitOf emptyFlat ≡ emptyUnit
 empty-stands = refl
 
--- the record of a build or an inspection that was not refused stands for the unit that has the net
+-- the record of a call that set the net half stands for the unit that has the net
 pub net-stands : (before : FlatUnit) (v : Multiplicities)
     → unitOf (netHalf before (withNet (unitOf before) v)) ≡ withNet (unitOf before) v
 net-stands before v = refl
@@ -33,7 +33,8 @@ block-stands before n1 n2 n3 = refl
 
 -- ---- numbers
 
--- the number of a build or an inspection is 0 exactly where the unit was changed, if no refusal has number 0
+-- the number of a call that sets the net half is 0 exactly where the unit was changed, if no refusal has
+-- number 0
 pub net-number : (before : FlatUnit) (answer : UnitAnswer)
     → ((r : Refusal) → answer ≡ UnitAnswer.Refused r → r .number ≡ 0 → ⊥)
     → (flatNet before answer .number ≡ 0) ↔ ((after : Unit) × (answer ≡ UnitAnswer.Changed after))

@@ -61,7 +61,7 @@ blockHalf before after = record {
   n3 = after .n3;
 }
 
--- Section 12.2: the answer of a build or an inspection that was handed the record `before`: a refusal's
+-- Section 12.2: the answer of a call that sets the net half and was handed the record `before`: a refusal's
 -- number and place and the record as it was, or 0, 0 and the record with the net
 abbrev pub flatNet : FlatUnit → UnitAnswer → FlatUnitAnswer
 flatNet before (UnitAnswer.Changed after) = record { number = 0; place = 0; unit = netHalf before after }

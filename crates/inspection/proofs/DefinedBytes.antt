@@ -12,7 +12,7 @@ use Rattle.sums.specs.Fill.{filled, tabulate}
 use Rattle.spline.proofs.Cases.{by-ltb}
 use Rattle.spline.proofs.Multiplicities.{Positive}
 use Rattle.spline.proofs.Orders.{order-of-defined}
-use Rattle.spline.specs.Box.{placeOf, places, width}
+use Rattle.spline.specs.Box.{definedNumber, placeOf, places, width}
 use Rattle.spline.specs.Build.{built, direction, orderNet, simple}
 use Rattle.spline.specs.Defined.{defined, definedOrder, repeats}
 use Rattle.spline.specs.Multiplicities.{Multiplicities, multiplicitiesOf}
@@ -20,7 +20,6 @@ use Rattle.spline.specs.Place.{Axis, Direction, Net, a1, a2, a3, along, diagona
 use Rattle.net.specs.Inner.GoodOrder.{GoodOrder}
 use Rattle.net.specs.Order.{badByte, orderNumber, orderPlaces, orderWidth}
 use Rattle.inspection.specs.Inner.Lists.{definedByte}
-use Rattle.inspection.specs.Inspect.{definedNumber}
 
 -- ---- runs of a direction
 

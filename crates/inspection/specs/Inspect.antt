@@ -5,8 +5,7 @@ use Prim.Native.Nat.{ℕ}
 use lib.Dec.{eqb, ltb}
 use lib.ListN.{getD, length}
 use Rattle.sums.specs.Search.{first}
-use Rattle.spline.specs.Box.{placeOf, places, width}
-use Rattle.spline.specs.Defined.{defined}
+use Rattle.spline.specs.Box.{definedNumber, places, width}
 use Rattle.spline.specs.Multiplicities.{Multiplicities, allowed}
 use Rattle.unit.specs.Checks.{passedOr, refuseAt, refuseIf}
 use Rattle.unit.specs.Unit.{withNet}
@@ -15,10 +14,6 @@ use Rattle.unit.specs.declared.Checked.the-variants.{Passed}
 use Rattle.unit.specs.declared.Unit.{Unit}
 use Rattle.unit.specs.declared.UnitAnswer.{UnitAnswer}
 use Rattle.unit.specs.declared.UnitAnswer.the-variants.{Changed, Refused}
-
--- Section 3.7: the number of the defined net at an index
-abbrev pub definedNumber : Multiplicities → ℕ → ℕ
-definedNumber v i = defined v (placeOf (width v) i)
 
 -- Section 7.1: the number of a net at an index is not that of f
 abbrev pub differsFrom : (ℕ → ℕ) → List ℕ → ℕ → Bool

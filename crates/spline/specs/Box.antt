@@ -1,4 +1,4 @@
--- The box of a net, the list of its numbers, and a list read as a net: Section 2.4.
+-- The box of a net, its numbers by their index and as a list, and a list read as a net: Section 2.4.
 use mathlib.Core.Bool.{cond}
 use mathlib.Core.List.{List}
 use Prim.Native.Nat.{ℕ, _+_, _*_, _/_, _%_}
@@ -7,6 +7,7 @@ use lib.ListN.{getD}
 use lib.IntN.{ℤ, pos, negsuc}
 use Rattle.sums.specs.Fill.{tabulate}
 use Rattle.spline.specs.Place.{Axis, a1, a2, a3, Place, place, Net}
+use Rattle.spline.specs.Defined.{defined}
 use Rattle.spline.specs.Multiplicities.{Multiplicities, degree, extent}
 
 -- Section 2.4: the width Wb of the box on an axis
@@ -24,6 +25,10 @@ index W x y z = x + W a1 * (y + W a2 * z)
 -- Section 2.4: the place that has the index i
 abbrev pub placeOf : (Axis → ℕ) → ℕ → Place
 placeOf W i = place (pos (i % W a1)) (pos (i / W a1 % W a2)) (pos (i / W a1 / W a2))
+
+-- Section 3.7: the number of the defined net at an index
+abbrev pub definedNumber : Multiplicities → ℕ → ℕ
+definedNumber v i = defined v (placeOf (width v) i)
 
 -- Section 6.2: the numbers of a net over its box, in index order
 unfoldable pub netList : (Axis → ℕ) → Net → List ℕ

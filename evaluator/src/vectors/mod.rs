@@ -3,6 +3,7 @@
 mod builds;
 mod damage;
 mod faces;
+mod factory;
 mod gaps;
 mod inspections;
 mod live;
@@ -63,7 +64,8 @@ fn all_nets(wanted: &BTreeSet<Multiplicities>) -> (String, Shelf) {
 
 fn make() -> Vec<Vectors> {
     let of_points = [points::shapes(), faces::shapes(), refusals::shapes(), damage::shapes(), gaps::shapes()].concat();
-    let wanted = [of_points, live::shapes(), inspections::shapes(), whole::shapes()].concat();
+    let of_nets = [inspections::shapes(), whole::shapes(), factory::shapes()].concat();
+    let wanted = [of_points, live::shapes(), of_nets].concat();
     let (digests, shelf) = all_nets(&wanted.into_iter().collect());
     let scenes = [points::scenes(), faces::scenes(), refusals::scenes(&shelf), damage::scenes(&shelf), gaps::scenes()];
     let scenes: Vec<Scene> = scenes.into_iter().flatten().collect();
@@ -72,6 +74,7 @@ fn make() -> Vec<Vectors> {
         Vectors { name: "whole-nets.txt", text: whole::nets(&shelf) },
         Vectors { name: "shares.txt", text: whole::shares() },
         Vectors { name: "builds.txt", text: builds::text() },
+        Vectors { name: "factory.txt", text: factory::text(&shelf) },
         Vectors { name: "inspections.txt", text: inspections::text(&shelf) },
         Vectors { name: "loads.txt", text: loads::text() },
         Vectors { name: "points.txt", text: points::text(&scenes, &shelf) },
@@ -104,11 +107,13 @@ mod tests {
 
     #[test]
     fn each_refusal_has_a_case() {
-        let shelf = Shelf { nets: refusals::shapes().into_iter().map(|v| (v, Net::of(v))).collect() };
+        let shapes: BTreeSet<Multiplicities> = refusals::shapes().into_iter().chain(factory::shapes()).collect();
+        let shelf = Shelf { nets: shapes.into_iter().map(|v| (v, Net::of(v))).collect() };
         let points = points::text(&refusals::scenes(&shelf), &shelf);
         let live = live::text(&refusals::live_scenes(&shelf), &shelf);
-        let cases: [(String, &[u8]); 4] = [
+        let cases: [(String, &[u8]); 5] = [
             (builds::text(), &[1, 2, 4]),
+            (factory::text(&shelf), &[4]),
             (loads::text(), &[5, 6, 7, 8, 16, 9]),
             (points, &[21, 22, 4, 9, 10, 11, 12, 13, 23]),
             (live, &[21, 22, 4, 9, 10, 11, 15, 12, 13, 23]),

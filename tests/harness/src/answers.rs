@@ -20,6 +20,12 @@ pub struct Handed {
 }
 
 impl Handed {
+    /// Of any bytes for flags.
+    pub fn of([has_net, has_block]: [u8; 2], v: [u8; 4], n: [u16; 3]) -> Handed {
+        let unit = Unit { has_net: has_net == 1, v, has_block: has_block == 1, n };
+        Handed { unit, absent: [has_net, has_block] }
+    }
+
     pub fn record(&self) -> Record {
         let Unit { has_net, v: [v1, v2, v3, v4], has_block, n: [n1, n2, n3] } = self.unit;
         let flag = |set: bool, absent: u8| if set { 1 } else { absent };
@@ -27,7 +33,7 @@ impl Handed {
         Record { has_net, v1, v2, v3, v4, has_block, n1, n2, n3 }
     }
 
-    /// What a build or an inspection must answer: all bytes of the block half are as handed in.
+    /// What a call that sets the net half must answer: all bytes of the block half are as handed in.
     pub fn net_answer(&self, changed: &Changed) -> UnitAnswer {
         self.answer(changed, |before, after| Record { has_block: before.has_block, ..after })
     }

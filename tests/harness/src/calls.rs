@@ -14,7 +14,7 @@ use std::sync::atomic::{AtomicBool, Ordering};
 pub static TRACE: AtomicBool = AtomicBool::new(false);
 
 /// Makes a case's call. A failure begins with the case.
-pub fn run(case: &impl fmt::Display, call: impl FnOnce() -> Outcome) -> Outcome {
+pub fn run<T>(case: &impl fmt::Display, call: impl FnOnce() -> Outcome<T>) -> Outcome<T> {
     if TRACE.load(Ordering::Relaxed) {
         println!("{case}");
     }

@@ -3,6 +3,7 @@
 
 mod answers;
 mod calls;
+mod factory;
 mod guard;
 mod live;
 mod random;
@@ -14,10 +15,12 @@ mod threads;
 mod torskavel;
 
 use answers::Handed;
+use evaluator::calls::factory_shape;
+use evaluator::net::Net;
 use evaluator::unit::Unit;
 use random::points::{self, Asked, Spread};
 use random::{builds, inspections, loads};
-use report::{ANSWER, BUILD, INSPECT, LIVE, LOAD, Report, Tally};
+use report::{ANSWER, BUILD, FACTORY, INSPECT, LIVE, LOAD, Report, Tally};
 use shelf::Shelf;
 use std::process::ExitCode;
 use std::sync::atomic::Ordering;
@@ -33,6 +36,7 @@ fn stored_vectors(report: &mut Report) -> Outcome<Shelf> {
     let shelf = report.group(BUILD, "vectors/nets.txt", stored::nets::digests)?;
     report.group(BUILD, "vectors/whole-nets.txt", stored::nets::whole)?;
     report.group(BUILD, "vectors/builds.txt", |tally| stored::builds::run(&shelf, tally))?;
+    report.group(FACTORY, "vectors/factory.txt", |tally| stored::factory::run(&shelf, tally))?;
     report.group(INSPECT, "vectors/inspections.txt", |tally| stored::inspections::run(&shelf, tally))?;
     report.group(LOAD, "vectors/loads.txt", stored::loads::run)?;
     report.group(ANSWER, "vectors/points.txt", |tally| stored::points::run(&shelf, tally))?;
@@ -70,6 +74,29 @@ fn random_points(asked: Asked, seed: u64, shelf: &Shelf, report: &mut Report) ->
     spread.finish()
 }
 
+/// Random factory calls, and what is asked of the nets that they copy, from the seeds after `seed`.
+fn factory_calls(seed: u64, shelf: &Shelf, report: &mut Report) -> Outcome {
+    let net = Net::of(factory_shape());
+    let mut group = |kind, title: &str, more: u64, run: &mut dyn FnMut(u64, &mut Tally) -> Outcome| {
+        let seed = seed + more;
+        report.group(kind, &format!("{title}, seed {seed}"), |tally| run(seed, tally))
+    };
+    let title = "random factory calls";
+    group(FACTORY, title, 1, &mut |seed, tally| random::factory::run(seed, 3000, &net, shelf, tally))?;
+    let title = "random factory calls beside builds";
+    group(FACTORY, title, 2, &mut |seed, tally| random::factory::beside_builds(seed, 1000, shelf, tally))?;
+    let title = "a copied net, each number changed in turn";
+    group(INSPECT, title, 3, &mut |seed, tally| random::factory::inspected(seed, shelf, tally))?;
+    let title = "vectors/points.txt, over copied nets";
+    group(ANSWER, title, 4, &mut |seed, tally| stored::copied::points(seed, shelf, tally))?;
+    let title = "vectors/live.txt, over copied nets";
+    group(LIVE, title, 5, &mut |seed, tally| stored::copied::live(seed, shelf, tally))?;
+    let title = "random points over copied nets";
+    group(ANSWER, title, 6, &mut |seed, tally| points::over_copied(Asked::Exact, seed, 1500, shelf, tally))?;
+    let title = "random live points over copied nets";
+    group(LIVE, title, 7, &mut |seed, tally| points::over_copied(Asked::Live, seed, 1500, shelf, tally))
+}
+
 fn run() -> Outcome {
     let arguments: Vec<String> = std::env::args().skip(1).collect();
     match arguments.iter().map(String::as_str).collect::<Vec<_>>()[..] {
@@ -83,6 +110,7 @@ fn run() -> Outcome {
     random_calls(&shelf, &mut report)?;
     random_points(Asked::Exact, 4, &shelf, &mut report)?;
     random_points(Asked::Live, 9, &shelf, &mut report)?;
+    factory_calls(14, &shelf, &mut report)?;
     report.finish()
 }
 

@@ -39,6 +39,7 @@ pub struct Kind {
 }
 
 pub const BUILD: Kind = Kind { name: "build", numbers: &[0, 1, 2, 4] };
+pub const FACTORY: Kind = Kind { name: "factory", numbers: &[0, 4] };
 pub const INSPECT: Kind = Kind { name: "inspect", numbers: &[0, 3, 4, 14] };
 pub const LOAD: Kind = Kind { name: "load", numbers: &[0, 5, 6, 7, 8, 16, 9] };
 pub const ANSWER: Kind = Kind { name: "answer", numbers: &[0, 21, 22, 4, 9, 10, 11, 12, 13, 23] };
@@ -56,13 +57,16 @@ impl Report {
         let mut tally = Tally::default();
         let given = run(&mut tally).map_err(|failure| format!("{title}: {failure}"))?;
         println!("{tally}");
+        if tally.0.is_empty() {
+            return Err(format!("{title}: no case was tried"));
+        }
         self.0.entry(kind.name).or_default().add(&tally);
         Ok(given)
     }
 
     /// Prints the sums, and fails where a number of a call was never answered.
     pub fn finish(&self) -> Outcome {
-        for Kind { name, numbers } in [BUILD, INSPECT, LOAD, ANSWER, LIVE] {
+        for Kind { name, numbers } in [BUILD, FACTORY, INSPECT, LOAD, ANSWER, LIVE] {
             let tally = self.0.get(name).ok_or(format!("{name} was never called"))?;
             println!("all of {name}: {tally}");
             if let Some(number) = numbers.iter().find(|number| !tally.0.contains_key(number)) {

@@ -1,6 +1,8 @@
-//! The hand-written calls against the library's, refusals included; loads against the evaluator's too.
+//! The hand-written calls against the library's, refusals included; factory calls and loads against the
+//! evaluator's too.
 
 mod builds;
+mod factory;
 mod inspections;
 mod loads;
 mod points;

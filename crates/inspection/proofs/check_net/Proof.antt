@@ -14,7 +14,7 @@ use Rattle.sums.proofs.Fill.{filled-at, length-filled}
 use Rattle.sums.proofs.Search.{first-cong}
 use Rattle.sums.specs.Fill.{filled}
 use Rattle.sums.specs.Search.{first}
-use Rattle.spline.specs.Box.{places, width}
+use Rattle.spline.specs.Box.{definedNumber, places, width}
 use Rattle.spline.specs.Multiplicities.{Multiplicities, allowed}
 use Rattle.spline.specs.Place.{Axis}
 use Rattle.unit.proofs.Checks.{if-passed, if-stopped, or-false}
@@ -27,7 +27,7 @@ use Rattle.shape.specs.Shape.{counted, widths}
 use Rattle.shape.specs.declared.Shape.{Shape}
 use Rattle.inspection.proofs.check_net.Statement.{statement}
 use Rattle.inspection.specs.Inner.Lists.{differs}
-use Rattle.inspection.specs.Inspect.{definedNumber, differsFrom, inspectChecks, shorter}
+use Rattle.inspection.specs.Inspect.{differsFrom, inspectChecks, shorter}
 use Rattle.inspection.proofs.check_net.Tie as tie
 
 -- the multiplicities are within their limits

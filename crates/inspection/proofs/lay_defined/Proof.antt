@@ -8,7 +8,7 @@ use lib.ListN.{length}
 use denote.Ref.{now}
 use Rattle.sums.specs.Fill.{filled}
 use Rattle.spline.proofs.Multiplicities.{Positive, limits-positive}
-use Rattle.spline.specs.Box.{netList, places, width}
+use Rattle.spline.specs.Box.{definedNumber, netList, places, width}
 use Rattle.spline.specs.Multiplicities.{Multiplicities}
 use Rattle.unit.specs.declared.Checked.the-variants.{Passed}
 use Rattle.shape.specs.Shape.{counted}
@@ -18,7 +18,6 @@ use Rattle.net.specs.Order.{buildChecks, orderNumber, orderPlaces}
 use Rattle.inspection.proofs.DefinedBytes.{order, order-filled, order-good, order-length}
 use Rattle.inspection.proofs.DefinedBytes.{order-places, repeatCount}
 use Rattle.inspection.proofs.lay_defined.Statement.{statement}
-use Rattle.inspection.specs.Inspect.{definedNumber}
 use Rattle.inspection.proofs.lay_defined.Tie as tie
 
 module _ (s : tie.Start) where

@@ -1,6 +1,7 @@
 //! Random calls from fixed seeds, and what the kinds of calls share.
 
 pub mod builds;
+pub mod factory;
 pub mod inspections;
 pub mod loads;
 pub mod points;
@@ -139,4 +140,14 @@ pub fn unit(random: &mut Random) -> Handed {
     }
     (unit.has_net, unit.has_block) = (random.below(3) > 0, random.below(3) > 0);
     Handed { unit, absent: absent(random) }
+}
+
+/// Any bytes, as after a bad read of a flash memory; flags that are set are not rare.
+pub fn any_bytes(random: &mut Random) -> Handed {
+    let flags = [0; 2].map(|_: u8| {
+        let any = random.below(256) as u8;
+        pick(random, &[1, any])
+    });
+    let v = [0; 4].map(|_: u8| random.below(256) as u8);
+    Handed::of(flags, v, [0; 3].map(|_: u16| random.below(65536) as u16))
 }

@@ -11,12 +11,18 @@ use crate::shelf::Shelf;
 use evaluator::live::{self, Floats};
 
 pub fn run(shelf: &Shelf, tally: &mut Tally) -> Outcome {
-    each_call("live.txt", "live", shelf, |point, mut words| {
-        let flag = words.number()?;
-        let expected = answered(&mut words)?;
-        Live { point, flag }.check(&expected)?;
+    each_live(shelf, |live, expected| {
+        live.check(&expected)?;
         tally.count(number(&expected));
         Ok(())
+    })
+}
+
+/// Hands on each call with its stored answer.
+pub fn each_live(shelf: &Shelf, mut run: impl FnMut(&Live, LiveAnswered) -> Outcome) -> Outcome {
+    each_call("live.txt", "live", shelf, |point, mut words| {
+        let flag = words.number()?;
+        run(&Live { point, flag }, answered(&mut words)?)
     })
 }
 

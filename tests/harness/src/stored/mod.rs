@@ -1,6 +1,8 @@
 //! The stored vectors: their lines, read word by word, and a module for each kind of file.
 
 pub mod builds;
+pub mod copied;
+pub mod factory;
 pub mod inspections;
 pub mod live;
 pub mod loads;
@@ -9,7 +11,7 @@ pub mod points;
 mod scene;
 
 use crate::Outcome;
-use crate::answers::Changed;
+use crate::answers::{Changed, Handed};
 use evaluator::net::Multiplicities;
 use evaluator::unit::{Refusal, Unit};
 use std::fs;
@@ -70,10 +72,15 @@ impl<'a> Words<'a> {
     }
 
     pub fn unit(&mut self) -> Outcome<Unit> {
-        let has_net = self.number::<u8>()? == 1;
+        Ok(self.handed()?.unit)
+    }
+
+    /// A record, its flags as they stand.
+    pub fn handed(&mut self) -> Outcome<Handed> {
+        let has_net = self.number()?;
         let v = self.numbers()?;
-        let has_block = self.number::<u8>()? == 1;
-        Ok(Unit { has_net, v, has_block, n: self.numbers()? })
+        let has_block = self.number()?;
+        Ok(Handed::of([has_net, has_block], v, self.numbers()?))
     }
 
     pub fn refusal(&mut self) -> Outcome<Refusal> {

@@ -36,9 +36,16 @@ impl Case {
     where
         F: Fn(&Call, &[u32]) -> Answered,
     {
+        self.check_over(&self.net.slice(shelf, self.net_length), self.net.to_string(), tally, exact)
+    }
+
+    /// Makes the call over a net slice, which is this for a reader.
+    pub fn check_over<F>(&self, net: &[u32], told: String, tally: &mut Tally, exact: F) -> Outcome<u8>
+    where
+        F: Fn(&Call, &[u32]) -> Answered,
+    {
         let Case { handed, corrections, uncertainties, coordinates, divisor, .. } = self;
-        let (unit, coordinates, divisor, told) = (*handed, *coordinates, *divisor, self.net.to_string());
-        let net = &self.net.slice(shelf, self.net_length);
+        let (unit, coordinates, divisor) = (*handed, *coordinates, *divisor);
         let point = &Point { unit, net, told, corrections, uncertainties, coordinates, divisor };
         let exact = exact(&point.evaluated(), net);
         let number = match self.flag {

@@ -1,6 +1,8 @@
-//! Random points, of the exact or of the live call: over defined nets, with faults, over damaged nets, and over gaps.
+//! Random points, of the exact or of the live call: over defined nets and copies of the factory's, with faults,
+//! over damaged nets, and over gaps.
 
 mod case;
+mod copied;
 mod damage;
 mod faults;
 mod gaps;
@@ -11,6 +13,7 @@ use crate::Outcome;
 use crate::report::Tally;
 use crate::shelf::Shelf;
 use case::Case;
+pub use copied::over_copied;
 use evaluator::point::Call;
 use evaluator::random::Random;
 use evaluator::{lent, live, point};
