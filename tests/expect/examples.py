@@ -16,6 +16,7 @@ from pathlib import Path
 
 sys.path.append(str(Path(__file__).resolve().parents[1]))
 from evaluator import ROOT, ask, live, net, widths
+from stored import keep
 
 STORED = ROOT / "examples/expected"
 FIELD = ROOT / "examples/machine.field"
@@ -138,11 +139,4 @@ def expected():
     return "".join(unit.lines)
 
 
-def main():
-    if sys.argv[1:] != ["--check"]:
-        STORED.write_text(expected())
-    elif STORED.read_text() != expected():
-        sys.exit("not current: examples/expected")
-
-
-main()
+keep(STORED, expected())

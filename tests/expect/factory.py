@@ -12,6 +12,7 @@ from pathlib import Path
 
 sys.path.append(str(Path(__file__).resolve().parents[1]))
 from evaluator import ROOT, net, widths
+from stored import keep
 
 STORED = ROOT / "crates/factory/src/table.rt"
 SHAPE = (2, 2, 2, 1)
@@ -33,11 +34,4 @@ def table():
     return "".join(lines) + "];\n"
 
 
-def main():
-    if sys.argv[1:] != ["--check"]:
-        STORED.write_text(table())
-    elif STORED.read_text() != table():
-        sys.exit("not current: crates/factory/src/table.rt")
-
-
-main()
+keep(STORED, table())

@@ -11,17 +11,9 @@ from pathlib import Path
 
 sys.path.append(str(Path(__file__).resolve().parents[1]))
 from evaluator import ROOT, prints
+from stored import keep
 
 CRATE = ROOT / "crates/shares"
-STORED = CRATE / "stdout"
 
-
-def main():
-    [text] = prints([(CRATE / "stdin").read_bytes()])
-    if sys.argv[1:] != ["--check"]:
-        STORED.write_text(text)
-    elif STORED.read_text() != text:
-        sys.exit("not current: crates/shares/stdout")
-
-
-main()
+[text] = prints([(CRATE / "stdin").read_bytes()])
+keep(CRATE / "stdout", text)
