@@ -1,9 +1,10 @@
 /*
  * Torskavel for C99, C++11 and later: the calls of the archive that `rt staticlib c_api` writes,
- * target/staticlib/libc_api.a. torskavel_layout.h stands beside this file.
+ * target/staticlib/libc_api.a. Beside this file stand torskavel_layout.h, with the records, and torskavel_limits.h.
  *
- * A call answers or refuses by number, whatever numbers, bytes, counts and unit record it is handed; a refused call leaves
- * the record and every slice as they were, but for the two work slices of an inspection. docs/SPECIFICATION.md has all.
+ * A call answers or refuses by number, whatever numbers, bytes, counts, unit record and placing it is handed; a refused
+ * call leaves the record and every slice as they were, but for the two work slices of an inspection.
+ * docs/SPECIFICATION.md has all.
  *
  * What the archive is:
  *
@@ -13,9 +14,9 @@
  *   - At most TORSKAVEL_MAX_CODE bytes of code and constants, no data that is written, no heap. Nothing is kept between
  *     calls. It needs no functions from outside but memset and memcpy.
  *   - A call takes at most TORSKAVEL_MAX_STACK bytes of stack, its arguments and return address and the red zone
- *     included, what memset and memcpy take not included. Only the calls for a point take as much, for its blended numbers;
- *     torskavel_build and torskavel_inspect take at most TORSKAVEL_MAX_STACK_BUILD; torskavel_empty_unit,
- *     torskavel_factory and torskavel_load at most TORSKAVEL_MAX_STACK_LOAD.
+ *     included, what memset and memcpy take not included. Only the calls that answer or value a point take as much, for
+ *     its blended numbers; torskavel_build, torskavel_inspect and torskavel_place take at most TORSKAVEL_MAX_STACK_BUILD;
+ *     torskavel_empty_unit, torskavel_factory and torskavel_load at most TORSKAVEL_MAX_STACK_LOAD.
  *
  * What the caller owes, since no call can test it. A slice is two arguments: a pointer to its first element and the count
  * of its elements (not bytes).
@@ -26,10 +27,12 @@
  *   - A slice whose pointer is not to const overlaps no other slice of the same call. Slices only read may overlap.
  *   - While a call runs nobody else writes to its slices, and nobody reads those that it writes: they are half-written
  *     until it returns. Calls that keep to this may run at the same time, as points over one net and one block.
- *   - While torskavel_live_answer runs the processor rounds to nearest, as at a program's start: bits 13 and 14 of MXCSR
- *     are 0. No step of it rounds, but the sign of a sum that is zero depends on them. No other call uses floats.
+ *   - While torskavel_live_answer or torskavel_live_value runs the processor rounds to nearest, as at a program's start:
+ *     bits 13 and 14 of MXCSR are 0. No step of them rounds, but the sign of a sum that is zero depends on these bits. No
+ *     other call uses floats.
  *
- * The padding of an answer has no promised value: compare fields, not bytes. A unit has no padding.
+ * The padding of an answer has no promised value: compare fields, not bytes. A unit has no padding. A placing has one byte
+ * of it, behind s: no call looks at it, and it need not have been given a value.
  */
 #ifndef TORSKAVEL_H
 #define TORSKAVEL_H
@@ -37,65 +40,16 @@
 #include <stddef.h>
 #include <stdint.h>
 
+#include "torskavel_layout.h"
+#include "torskavel_limits.h"
+
 #ifdef __cplusplus
 extern "C" {
 #endif
 
 #define TORSKAVEL_VERSION_MAJOR 0
-#define TORSKAVEL_VERSION_MINOR 5
+#define TORSKAVEL_VERSION_MINOR 6
 #define TORSKAVEL_VERSION_PATCH 0
-
-#define TORSKAVEL_MAX_CODE 24576
-#define TORSKAVEL_MAX_STACK 12288
-#define TORSKAVEL_MAX_STACK_BUILD 2048
-#define TORSKAVEL_MAX_STACK_LOAD 256
-
-/* The limits: an order's bytes; the sum of the four multiplicities, each at least 1; a net's degree and places; a block's
-   size on an axis and its entries; a file's bytes, and an uncertainty in it; a point's divisor, its denominator, and its
-   denominator in a live call. */
-#define TORSKAVEL_MAX_ORDER 8
-#define TORSKAVEL_MAX_MULTIPLICITY_SUM 12
-#define TORSKAVEL_MAX_DEGREE 9
-#define TORSKAVEL_MAX_PLACES 753571
-#define TORSKAVEL_MAX_SIZE 64
-#define TORSKAVEL_MAX_ENTRIES 4096
-#define TORSKAVEL_MAX_FILE 16390
-#define TORSKAVEL_MAX_UNCERTAINTY 32767
-#define TORSKAVEL_MAX_DIVISOR 4096
-#define TORSKAVEL_MAX_DENOMINATOR UINT64_C(281474976710656)
-#define TORSKAVEL_MAX_LIVE_DENOMINATOR UINT64_C(137438953472)
-
-/* The correction of a gap, an entry that was never measured. In a file its uncertainty is 0. */
-#define TORSKAVEL_NEVER_MEASURED (-32768)
-
-/* For multiplicities within the limits, the degree m of their net, the places on an axis of its box, and its places
-   W1 * W2 * W3. Place (x, y, z) has the index x + W1 * (y + W2 * z). The factory shape is 2, 2, 2, 1. */
-#define TORSKAVEL_DEGREE(v1, v2, v3, v4) ((size_t)(v1) + (size_t)(v2) + (size_t)(v3) + (size_t)(v4) - 3)
-#define TORSKAVEL_WIDTH(degree, vb, v4) ((size_t)(degree) * ((size_t)(vb) + (size_t)(v4)) + 1)
-#define TORSKAVEL_PLACES(v1, v2, v3, v4) \
-    (TORSKAVEL_WIDTH(TORSKAVEL_DEGREE(v1, v2, v3, v4), v1, v4) * \
-     TORSKAVEL_WIDTH(TORSKAVEL_DEGREE(v1, v2, v3, v4), v2, v4) * \
-     TORSKAVEL_WIDTH(TORSKAVEL_DEGREE(v1, v2, v3, v4), v3, v4))
-#define TORSKAVEL_FACTORY_PLACES 2197
-
-/* For three sizes, the entries of their block and the bytes of its file. Entry (j1, j2, j3) has the index
-   j1 + n1 * (j2 + n2 * j3). */
-#define TORSKAVEL_ENTRIES(n1, n2, n3) ((size_t)(n1) * (size_t)(n2) * (size_t)(n3))
-#define TORSKAVEL_FILE(n1, n2, n3) (6 + 4 * TORSKAVEL_ENTRIES(n1, n2, n3))
-
-/*
- * What a unit holds: a net of multiplicities v1 to v4, and a block of sizes n1, n2, n3. The numbers themselves stand in the
- * slices that the caller keeps and lends to each call.
- *
- * Any bytes may stand in it, as after a bad read of a flash memory. has_net and has_block say by 1 that there is one; every
- * other byte counts as absent, and so do values that break the limits.
- */
-struct torskavel_unit {
-    uint8_t has_net;
-    uint8_t v1, v2, v3, v4;
-    uint8_t has_block;
-    uint16_t n1, n2, n3;
-};
 
 /*
  * The number of an answer: 0 where the call was not refused, else the first that applies, in the order that stands at each
@@ -117,37 +71,12 @@ enum torskavel_refused {
     TORSKAVEL_REFUSED_OUTSIDE = 12,        /* the point is not inside the block */
     TORSKAVEL_REFUSED_UNMEASURED = 13,     /* the point needs an entry that was never measured; place: the lowest such */
     TORSKAVEL_REFUSED_NET_DIFFERS = 14,    /* the net is not the defined one; place: the lowest index that differs */
-    TORSKAVEL_REFUSED_LIVE_DENOMINATOR = 15, /* in a live call alone: m! * divisor^m is above 2^37 */
+    TORSKAVEL_REFUSED_LIVE_DENOMINATOR = 15, /* in the live calls alone: m! * divisor^m is above 2^37 */
     TORSKAVEL_REFUSED_UNCERTAIN_GAP = 16,  /* the uncertainty of a gap in the file is not 0; place: the lowest such entry */
+    TORSKAVEL_REFUSED_PLACING = 17,        /* no point of the unit has the placing that was handed in */
     TORSKAVEL_REFUSED_NO_NET = 21,         /* the unit has no net */
     TORSKAVEL_REFUSED_NO_BLOCK = 22,       /* the unit has no block */
     TORSKAVEL_REFUSED_SHARES = 23          /* no net that answers this point was lent: its shares do not add up to m! */
-};
-
-/* The answer of a call that changes the unit: torskavel_load sets its block half, the others its net half, and the other
-   half is kept byte for byte. A refused call answers the unit as it was handed in, byte for byte. */
-struct torskavel_unit_answer {
-    uint32_t number;
-    size_t place;
-    struct torskavel_unit unit;
-};
-
-/* The answer of a point call: shift numerator / denominator and uncertainty / denominator, both in tenths of a micrometre,
-   not reduced. A refused call answers zeros. */
-struct torskavel_point_answer {
-    uint32_t number;
-    size_t place;
-    int64_t numerator;
-    uint64_t uncertainty;
-    uint64_t denominator;
-};
-
-/* The answer of a live call: N and U as floats, not divided by the denominator. A refused call answers +0.0 for both. */
-struct torskavel_live_point_answer {
-    uint32_t number;
-    size_t place;
-    double numerator;
-    double uncertainty;
 };
 
 /* The unit that holds neither net nor block: all zeros. */
@@ -240,10 +169,49 @@ struct torskavel_live_point_answer torskavel_live_answer(
     uint32_t x, uint32_t y, uint32_t z, uint32_t divisor,
     uint8_t with_uncertainty);
 
+/*
+ * The placing call: places a point, for torskavel_value and torskavel_live_value. One placing serves any number of blocks
+ * of these sizes, say those of the two axes of a stage. Refused by 21, 22, 10, 11, 12, in this order, as torskavel_answer
+ * refuses the point where neither 4 nor 9 applies.
+ */
+struct torskavel_placing_answer torskavel_place(
+    struct torskavel_unit unit, uint32_t x, uint32_t y, uint32_t z, uint32_t divisor);
+
+/*
+ * The valuing call: answers what torskavel_answer answers at the point that a placing stands for, from the lent net and
+ * block. Refused by 21, 22, 17, 4, 9, 13, 23, in this order. Writes to no slice.
+ *
+ * The divisor is l0 + l1 + l2 + l3. The remainders are l1 + l2 + l3 on axis p, l2 + l3 on axis r and l3 on axis s, and the
+ * point's coordinate on axis b is kb * divisor + its remainder. 17 is for a placing that torskavel_place gives for no
+ * coordinates and divisor of this unit. It gives exactly those with
+ *
+ *   - p, r, s: 1, 2, 3 in some order, p < r where l1 is 0 and r < s where l2 is 0;
+ *   - a divisor from 1 to 4096, and m! * divisor^m up to 2^48;
+ *   - on each axis b vb + v4 - 1 <= kb <= nb - 1, and kb = nb - 1 where the remainder is the divisor (the far face).
+ *
+ * So a placing from a unit with other multiplicities or sizes is refused, or stands for the same coordinates here.
+ */
+struct torskavel_point_answer torskavel_value(
+    struct torskavel_unit unit,
+    const uint32_t *net, size_t net_length,
+    const int16_t *corrections, size_t corrections_length,
+    const uint16_t *uncertainties, size_t uncertainties_length,
+    struct torskavel_placing placing);
+
+/*
+ * The live valuing call: what torskavel_live_answer answers at the point that a placing stands for. Refused by
+ * 21, 22, 17, 15, 4, 9, 13, 23, in this order: 15 comes before the lengths of the slices here. Writes to no slice.
+ */
+struct torskavel_live_point_answer torskavel_live_value(
+    struct torskavel_unit unit,
+    const uint32_t *net, size_t net_length,
+    const int16_t *corrections, size_t corrections_length,
+    const uint16_t *uncertainties, size_t uncertainties_length,
+    struct torskavel_placing placing,
+    uint8_t with_uncertainty);
+
 #ifdef __cplusplus
 }
 #endif
-
-#include "torskavel_layout.h"
 
 #endif

@@ -1,56 +1,26 @@
 //! Torskavel for Rust: the calls of the archive that `rt staticlib c_api` writes, target/staticlib/libc_api.a. What each
 //! does, and what the archive needs, stands in torskavel.h. The functions are safe: every Rust slice keeps what a C caller
-//! owes, and Rust rounds to nearest. torskavel_calls.rs stands beside this file.
+//! owes, and Rust rounds to nearest. Beside this file stand torskavel_calls.rs, torskavel_layout.rs and
+//! torskavel_limits.rs.
 
 // A program may use any part of this file.
-#![allow(dead_code)]
+#![allow(dead_code, unused_imports)]
 
 /// The calls as C has them.
 #[path = "torskavel_calls.rs"]
 pub mod calls;
+#[path = "torskavel_layout.rs"]
+mod layout;
+#[path = "torskavel_limits.rs"]
+mod limits;
 
 use calls::*;
-use core::mem::{align_of, offset_of, size_of};
+pub use layout::*;
+pub use limits::*;
 
 pub const VERSION_MAJOR: u32 = 0;
-pub const VERSION_MINOR: u32 = 5;
+pub const VERSION_MINOR: u32 = 6;
 pub const VERSION_PATCH: u32 = 0;
-
-/// The most bytes of code and constants of the archive.
-pub const MAX_CODE: usize = 24576;
-/// The most bytes of stack that a call takes, but for what memset and memcpy take.
-pub const MAX_STACK: usize = 12288;
-/// The most bytes of stack that `build` and `inspect` take.
-pub const MAX_STACK_BUILD: usize = 2048;
-/// The most bytes of stack that `empty_unit`, `factory` and `load` take.
-pub const MAX_STACK_LOAD: usize = 256;
-
-/// The most bytes of an order.
-pub const MAX_ORDER: usize = 8;
-/// The highest sum of the four multiplicities, each at least 1.
-pub const MAX_MULTIPLICITY_SUM: u32 = 12;
-/// The highest degree of a net.
-pub const MAX_DEGREE: u32 = 9;
-/// The most places of a net.
-pub const MAX_PLACES: usize = 753571;
-/// The largest size of a block on an axis.
-pub const MAX_SIZE: u16 = 64;
-/// The most entries of a block.
-pub const MAX_ENTRIES: usize = 4096;
-/// The bytes of the longest file.
-pub const MAX_FILE: usize = 16390;
-/// The largest uncertainty in a file.
-pub const MAX_UNCERTAINTY: u16 = 32767;
-/// The largest divisor of a point.
-pub const MAX_DIVISOR: u32 = 4096;
-/// The largest denominator of an answer.
-pub const MAX_DENOMINATOR: u64 = 281474976710656;
-/// The largest denominator with which a live call answers.
-pub const MAX_LIVE_DENOMINATOR: u64 = 137438953472;
-/// The correction of a gap, an entry that was never measured. In a file its uncertainty is 0.
-pub const NEVER_MEASURED: i16 = -32768;
-/// The places of the net of the factory shape, 2, 2, 2, 1.
-pub const FACTORY_PLACES: usize = 2197;
 
 /// The numbers of refusals, and 0 for none.
 pub mod refused {
@@ -71,90 +41,11 @@ pub mod refused {
     pub const NET_DIFFERS: u32 = 14;
     pub const LIVE_DENOMINATOR: u32 = 15;
     pub const UNCERTAIN_GAP: u32 = 16;
+    pub const PLACING: u32 = 17;
     pub const NO_NET: u32 = 21;
     pub const NO_BLOCK: u32 = 22;
     pub const SHARES: u32 = 23;
 }
-
-/// The places of the net of four multiplicities that are within their limits.
-pub const fn places([v1, v2, v3, v4]: [u8; 4]) -> usize {
-    let [v1, v2, v3, v4] = [v1 as usize, v2 as usize, v3 as usize, v4 as usize];
-    let degree = (v1 + v2 + v3 + v4).saturating_sub(3);
-    (degree * (v1 + v4) + 1) * (degree * (v2 + v4) + 1) * (degree * (v3 + v4) + 1)
-}
-
-/// The entries of a block of three sizes.
-pub const fn entries([n1, n2, n3]: [u16; 3]) -> usize {
-    n1 as usize * n2 as usize * n3 as usize
-}
-
-/// The bytes of the file of a block of three sizes.
-pub const fn file_length(n: [u16; 3]) -> usize {
-    6 + 4 * entries(n)
-}
-
-/// What a unit holds. Any bytes may stand in it; of a flag, 1 says present, and every other byte counts as absent.
-#[repr(C)]
-#[derive(Clone, Copy, PartialEq, Eq, Debug)]
-pub struct Unit {
-    pub has_net: u8,
-    pub v1: u8,
-    pub v2: u8,
-    pub v3: u8,
-    pub v4: u8,
-    pub has_block: u8,
-    pub n1: u16,
-    pub n2: u16,
-    pub n3: u16,
-}
-
-/// The number is 0 where the call was not refused; a refused call answers the unit as it was handed in.
-#[repr(C)]
-#[derive(Clone, Copy, PartialEq, Eq, Debug)]
-pub struct UnitAnswer {
-    pub number: u32,
-    pub place: usize,
-    pub unit: Unit,
-}
-
-/// The number is 0 where the call was not refused; a refused call answers zeros.
-#[repr(C)]
-#[derive(Clone, Copy, PartialEq, Eq, Debug)]
-pub struct PointAnswer {
-    pub number: u32,
-    pub place: usize,
-    pub numerator: i64,
-    pub uncertainty: u64,
-    pub denominator: u64,
-}
-
-/// N and U as floats, not divided. The number is 0 where the call was not refused; a refused call answers +0.0
-/// for both.
-#[repr(C)]
-#[derive(Clone, Copy, PartialEq, Debug)]
-pub struct LivePointAnswer {
-    pub number: u32,
-    pub place: usize,
-    pub numerator: f64,
-    pub uncertainty: f64,
-}
-
-const _: () = {
-    assert!(size_of::<Unit>() == 12 && align_of::<Unit>() == 2);
-    assert!(offset_of!(Unit, has_net) == 0 && offset_of!(Unit, v1) == 1 && offset_of!(Unit, v2) == 2);
-    assert!(offset_of!(Unit, v3) == 3 && offset_of!(Unit, v4) == 4 && offset_of!(Unit, has_block) == 5);
-    assert!(offset_of!(Unit, n1) == 6 && offset_of!(Unit, n2) == 8 && offset_of!(Unit, n3) == 10);
-    assert!(size_of::<UnitAnswer>() == 32 && align_of::<UnitAnswer>() == 8);
-    assert!(offset_of!(UnitAnswer, number) == 0 && offset_of!(UnitAnswer, place) == 8);
-    assert!(offset_of!(UnitAnswer, unit) == 16);
-    assert!(size_of::<PointAnswer>() == 40 && align_of::<PointAnswer>() == 8);
-    assert!(offset_of!(PointAnswer, number) == 0 && offset_of!(PointAnswer, place) == 8);
-    assert!(offset_of!(PointAnswer, numerator) == 16 && offset_of!(PointAnswer, uncertainty) == 24);
-    assert!(offset_of!(PointAnswer, denominator) == 32);
-    assert!(size_of::<LivePointAnswer>() == 32 && align_of::<LivePointAnswer>() == 8);
-    assert!(offset_of!(LivePointAnswer, number) == 0 && offset_of!(LivePointAnswer, place) == 8);
-    assert!(offset_of!(LivePointAnswer, numerator) == 16 && offset_of!(LivePointAnswer, uncertainty) == 24);
-};
 
 pub fn empty_unit() -> Unit {
     torskavel_empty_unit()
@@ -220,4 +111,34 @@ pub fn live_answer(
     let (u, u_length) = (uncertainties.as_ptr(), uncertainties.len());
     let flag = with_uncertainty.into();
     unsafe { torskavel_live_answer(unit, net, net_length, c, c_length, u, u_length, x, y, z, divisor, flag) }
+}
+
+/// Places a point once, for `value` and `live_value` over any number of blocks of these sizes.
+pub fn place(unit: Unit, [x, y, z]: [u32; 3], divisor: u32) -> PlacingAnswer {
+    torskavel_place(unit, x, y, z, divisor)
+}
+
+/// What `answer` gives at the point that a placing stands for. A placing that no point of the unit has is refused
+/// by 17.
+pub fn value(unit: Unit, net: &[u32], corrections: &[i16], uncertainties: &[u16], placing: Placing) -> PointAnswer {
+    let (net, net_length) = (net.as_ptr(), net.len());
+    let (c, c_length) = (corrections.as_ptr(), corrections.len());
+    let (u, u_length) = (uncertainties.as_ptr(), uncertainties.len());
+    unsafe { torskavel_value(unit, net, net_length, c, c_length, u, u_length, placing) }
+}
+
+/// What `live_answer` gives there. 15 comes just after 17, before the lengths of the slices are looked at.
+pub fn live_value(
+    unit: Unit,
+    net: &[u32],
+    corrections: &[i16],
+    uncertainties: &[u16],
+    placing: Placing,
+    with_uncertainty: bool,
+) -> LivePointAnswer {
+    let (net, net_length) = (net.as_ptr(), net.len());
+    let (c, c_length) = (corrections.as_ptr(), corrections.len());
+    let (u, u_length) = (uncertainties.as_ptr(), uncertainties.len());
+    let flag = with_uncertainty.into();
+    unsafe { torskavel_live_value(unit, net, net_length, c, c_length, u, u_length, placing, flag) }
 }

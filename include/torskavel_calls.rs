@@ -1,6 +1,6 @@
 //! The calls as torskavel.h declares them; torskavel.rs makes them safe.
 
-use super::{LivePointAnswer, PointAnswer, Unit, UnitAnswer};
+use super::{LivePointAnswer, Placing, PlacingAnswer, PointAnswer, Unit, UnitAnswer};
 
 unsafe extern "C" {
     pub safe fn torskavel_empty_unit() -> Unit;
@@ -61,6 +61,28 @@ unsafe extern "C" {
         y: u32,
         z: u32,
         divisor: u32,
+        with_uncertainty: u8,
+    ) -> LivePointAnswer;
+    pub safe fn torskavel_place(unit: Unit, x: u32, y: u32, z: u32, divisor: u32) -> PlacingAnswer;
+    pub fn torskavel_value(
+        unit: Unit,
+        net: *const u32,
+        net_length: usize,
+        corrections: *const i16,
+        corrections_length: usize,
+        uncertainties: *const u16,
+        uncertainties_length: usize,
+        placing: Placing,
+    ) -> PointAnswer;
+    pub fn torskavel_live_value(
+        unit: Unit,
+        net: *const u32,
+        net_length: usize,
+        corrections: *const i16,
+        corrections_length: usize,
+        uncertainties: *const u16,
+        uncertainties_length: usize,
+        placing: Placing,
         with_uncertainty: u8,
     ) -> LivePointAnswer;
 }

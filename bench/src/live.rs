@@ -34,7 +34,7 @@ fn assert_agreement(scene: &Scene, on: bool) {
         let bits = Ok([answer.numerator.to_bits(), answer.uncertainty.to_bits()]);
         let call = &scene.hand_call(point);
         assert_eq!(hand::live_answer(call, on).map(|floats| floats.bits()), bits, "{point:?}");
-        for (shape, tuned) in hand::LIVE_TUNED {
+        for (shape, tuned) in hand::SHAPES.into_iter().zip(hand::live_tuned()) {
             assert_eq!(tuned(call, on).map(|floats| floats.bits()), bits, "{shape} {point:?}");
         }
     }
@@ -50,7 +50,7 @@ pub fn measure(case: Case) -> (Row, Duration) {
         Box::new(|| scene.each(|point| scene.by_library_live(point, on))),
         Box::new(|| scene.each(|point| hand::live_answer(&scene.hand_call(point), on))),
     ];
-    for (_, tuned) in hand::LIVE_TUNED {
+    for tuned in hand::live_tuned() {
         contestants.push(Box::new(move || scene.each(|point| tuned(&scene.hand_call(point), on))));
     }
     let times: Vec<Duration> = shortest(&mut contestants).iter().map(|time| scene.of_each(time)).collect();

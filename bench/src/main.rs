@@ -9,6 +9,7 @@ mod live;
 mod loads;
 mod points;
 mod scene;
+mod stages;
 mod table;
 mod timing;
 #[rustfmt::skip]
@@ -39,7 +40,16 @@ fn main() {
             (row, exact)
         })
         .unzip();
-    table::print_shapes(&hand::TUNED.map(|(shape, _)| shape), points.iter().chain(&live));
+    let (stages, whole): (Vec<_>, Vec<_>) = stages::CASES
+        .into_iter()
+        .map(|case| {
+            let (row, whole) = stages::measure(case);
+            row.print();
+            (row, whole)
+        })
+        .unzip();
+    table::print_shapes(&hand::SHAPES, points.iter().chain(&live).chain(&stages));
     table::print_live(&live, &exact);
+    table::print_stages(&stages, &whole);
     table::print_factory(&factory, build);
 }

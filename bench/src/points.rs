@@ -17,7 +17,7 @@ fn assert_agreement(scene: &Scene) {
         assert_eq!((number, place), (0, 0), "{point:?}");
         let answer = Ok(Fraction { numerator, uncertainty, denominator });
         assert_eq!(hand::answer(&scene.hand_call(point)), answer, "{point:?}");
-        for (shape, tuned) in hand::TUNED {
+        for (shape, tuned) in hand::SHAPES.into_iter().zip(hand::tuned()) {
             assert_eq!(tuned(&scene.hand_call(point)), answer, "{shape} {point:?}");
         }
         let answer = Ok(recursion::Fraction { numerator, uncertainty, denominator });
@@ -40,7 +40,7 @@ pub fn measure(v: [u8; 4], divisor: u32, size: usize) -> Row {
         Box::new(|| scene.first(|point| recursion::answer_without_tables(&scene.recursion_call(point)))),
         Box::new(|| scene.each(|point| hand::answer(&scene.hand_call(point)))),
     ];
-    for (_, tuned) in hand::TUNED {
+    for tuned in hand::tuned() {
         contestants.push(Box::new(move || scene.each(|point| tuned(&scene.hand_call(point)))));
     }
     let times = shortest(&mut contestants);

@@ -16,11 +16,11 @@ const POINTS: usize = 24;
 
 /// A unit, what it is lent, and the points it is asked.
 pub struct Scene {
-    unit: Unit,
+    pub unit: Unit,
     multiplicities: Multiplicities,
-    net: Vec<u32>,
-    block: Block,
-    divisor: u32,
+    pub net: Vec<u32>,
+    pub block: Block,
+    pub divisor: u32,
     pub points: Vec<[u32; 3]>,
 }
 

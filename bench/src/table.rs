@@ -81,6 +81,15 @@ pub fn print_live(rows: &[Row], exact: &[Duration]) {
     }
 }
 
+/// The library's placing call and two valuing calls, and its two whole calls at the same points.
+pub fn print_stages(rows: &[Row], whole: &[Duration]) {
+    println!("\n| two blocks at a point | placed once, µs | two whole calls, µs | placed once / whole |");
+    println!("|---|---|---|---|");
+    for (Row { call, library, .. }, whole) in rows.iter().zip(whole) {
+        println!("| {call} | {} | {} | {} |", micros(*library), micros(*whole), ratio(*library, *whole));
+    }
+}
+
 /// The library's factory call, and its build of the same net.
 pub fn print_factory(row: &Row, build: Duration) {
     println!("\n| the same net | copied, µs | built, µs | built / copied |");

@@ -2,34 +2,16 @@
 //! letter, with 23. On a defined net it must agree with module `point`.
 
 use crate::interpolation::{Quadruple, factorials, quadruples};
-use crate::point::{Call, Exact, Fraction, Placed, place};
+use crate::placing::Placing;
+use crate::point::{Call, Exact, Fraction, Placed, checked};
 use crate::ratio::factorial;
 use crate::unit::refuse_if;
 
-/// u on each axis: on a far face the divisor.
-fn remainders(placed: &Placed) -> [u32; 3] {
-    let axes = placed.sizes.axes();
-    [0, 1, 2].map(|b| if placed.quotient[b] == axes[b] { placed.divisor } else { placed.remainder[b] })
-}
-
-/// The axes by remainder, largest first, of equal ones the lower axis first.
-fn axis_order(remainder: [u32; 3]) -> [usize; 3] {
-    let mut order = [0, 1, 2];
-    order.sort_by_key(|&b| (std::cmp::Reverse(remainder[b]), b));
-    order
-}
-
-/// L0 to L3.
-fn weights(remainder: [u32; 3], divisor: u32, order: [usize; 3]) -> [i128; 4] {
-    let [p, r, s] = order.map(|b| i128::from(remainder[b]));
-    [i128::from(divisor) - p, p - r, r - s, s]
-}
-
-fn local_place(b: &Quadruple, order: [usize; 3]) -> [usize; 3] {
+fn local_place(b: &Quadruple, axes: [usize; 3]) -> [usize; 3] {
     let mut local = [0; 3];
-    local[order[0]] = b[1] + b[2] + b[3];
-    local[order[1]] = b[2] + b[3];
-    local[order[2]] = b[3];
+    local[axes[0]] = b[1] + b[2] + b[3];
+    local[axes[1]] = b[2] + b[3];
+    local[axes[2]] = b[3];
     local
 }
 
@@ -56,19 +38,18 @@ fn blend(call: &Call, net: &[u32], placed: &Placed, window: &[(usize, [usize; 3]
 /// The answer of a call to which these numbers are lent; `call.net_length` is their count.
 pub fn answer(call: &Call, net: &[u32]) -> Exact {
     assert_eq!(call.net_length, net.len());
-    let placed = place(call)?;
+    let placed = checked(call)?;
     let degree = placed.multiplicities.degree();
-    let remainder = remainders(&placed);
-    let order = axis_order(remainder);
+    let Placing { order, weights, .. } = Placing::of(&placed);
+    let axes = order.map(|axis| usize::from(axis) - 1);
     let all = quadruples(degree);
     let window: Vec<_> = placed.window().collect();
-    let blend = |b| blend(call, net, &placed, &window, local_place(b, order));
+    let blend = |b| blend(call, net, &placed, &window, local_place(b, axes));
     let blended: Vec<Blended> = all.iter().map(blend).collect();
     refuse_if(blended.iter().any(|sums| sums.shares != factorial(degree)), 23)?;
-    let weights = weights(remainder, placed.divisor, order);
     let (mut numerator, mut uncertainty) = (0, 0);
     for (b, sums) in all.iter().zip(&blended) {
-        let powers: i128 = (0..4).map(|i| weights[i].pow(b[i] as u32)).product();
+        let powers: i128 = (0..4).map(|i| i128::from(weights[i]).pow(b[i] as u32)).product();
         let bernstein = factorial(degree) / factorials(b) * powers;
         numerator += bernstein * sums.correction;
         uncertainty += bernstein * sums.uncertainty;
@@ -93,27 +74,6 @@ mod tests {
 
     fn block() -> Block {
         Block::constant(Sizes::new([4, 3, 2]).unwrap(), 10, 3)
-    }
-
-    #[test]
-    fn of_equal_remainders_the_lower_axis_is_first() {
-        assert_eq!(axis_order([5, 5, 5]), [0, 1, 2]);
-        assert_eq!(axis_order([1, 5, 5]), [1, 2, 0]);
-        assert_eq!(axis_order([1, 5, 1]), [1, 0, 2]);
-        assert_eq!(axis_order([0, 1, 2]), [2, 1, 0]);
-    }
-
-    #[test]
-    fn the_placings_worked_by_hand() {
-        let placing = |coordinates| {
-            let placed = place(&call(&block(), coordinates)).unwrap();
-            let remainder = remainders(&placed);
-            let order = axis_order(remainder);
-            (placed.cell(), remainder, order, weights(remainder, 4, order))
-        };
-        assert_eq!(placing([10, 5, 7]), ([2, 1, 1], [2, 1, 3], [2, 0, 1], [1, 1, 1, 1]));
-        assert_eq!(placing([16, 5, 7]), ([3, 1, 1], [4, 1, 3], [0, 2, 1], [0, 1, 2, 1]));
-        assert_eq!(placing([15, 12, 8]), ([3, 2, 1], [3, 4, 4], [1, 2, 0], [0, 0, 1, 3]));
     }
 
     #[test]

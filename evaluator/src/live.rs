@@ -1,10 +1,11 @@
 //! Live answers: N and U of a point as the bits of floats, or N alone where the uncertainty is switched off.
 //!
-//! The numbers are those of the exact call. Check 15, which the live call alone has, stands between 11 and
-//! 12, and the floats are put together bit by bit: no arithmetic of floats takes part.
+//! The numbers are those of the exact call. Check 15, which live calls alone have, stands between 11 and 12, and at a
+//! placing just after 17. The floats are put together bit by bit: no arithmetic of floats takes part.
 
 use crate::point::{Call, Exact, denominator_of, largest_divisor_within};
 use crate::unit::{Refusal, refuse_if};
+use crate::value;
 use std::fmt;
 
 const LARGEST_DENOMINATOR: i128 = 1 << 37;
@@ -30,14 +31,27 @@ impl fmt::Display for Floats {
     }
 }
 
+/// The answer of a live call.
+pub type Live = Result<Floats, Refusal>;
+
 /// The greatest divisor that none of 10, 11 and 15 refuses.
 pub fn largest_divisor(degree: usize) -> u32 {
     largest_divisor_within(degree, LARGEST_DENOMINATOR)
 }
 
 /// The live answer of a call, from its exact one.
-pub fn answer(call: &Call, exact: Exact, with_uncertainty: bool) -> Result<Floats, Refusal> {
-    refuse_if(denominator_of(call)? > LARGEST_DENOMINATOR, 15)?;
+pub fn answer(call: &Call, exact: Exact, with_uncertainty: bool) -> Live {
+    over(denominator_of(call)?, exact, with_uncertainty)
+}
+
+/// The live answer at a placing, from the exact one.
+pub fn value(call: &value::Call, exact: Exact, with_uncertainty: bool) -> Live {
+    over(call.denominator()?, exact, with_uncertainty)
+}
+
+/// Check 15, and the floats of an answer that is not refused.
+fn over(denominator: i128, exact: Exact, with_uncertainty: bool) -> Live {
+    refuse_if(denominator > LARGEST_DENOMINATOR, 15)?;
     let exact = exact?;
     let (numerator, uncertainty) = (bits(exact.numerator.into()), bits(exact.uncertainty.into()));
     Ok(if with_uncertainty { Floats::Both { numerator, uncertainty } } else { Floats::Shift(numerator) })
@@ -64,9 +78,7 @@ mod tests {
     use crate::random::Random;
     use crate::unit::{Sizes, Unit};
 
-    type Answer = Result<Floats, Refusal>;
-
-    fn ask(v: [usize; 4], block: &Block, coordinates: [u32; 3], divisor: u32, on: bool) -> Answer {
+    fn ask(v: [usize; 4], block: &Block, coordinates: [u32; 3], divisor: u32, on: bool) -> Live {
         let multiplicities = Multiplicities::new(v).unwrap();
         let unit = Unit::EMPTY.with_net(multiplicities).with_block(block.sizes);
         let (net_length, Block { corrections, uncertainties, .. }) = (multiplicities.places(), block);

@@ -1,7 +1,8 @@
 //! The commands of the evaluator.
 
 use evaluator::net::{self, Multiplicities};
-use evaluator::{formats, query, shares, vectors};
+use evaluator::query::{self, placings};
+use evaluator::{formats, shares, vectors};
 use std::io::{self, Write};
 use std::path::Path;
 use std::process::ExitCode;
@@ -25,6 +26,11 @@ usage: evaluator COMMAND
   live FLAG ..              a point's live answer, the floats as their bits in hexadecimal; FLAG is 1, or 0 where
                             the uncertainty is switched off, and after it stands what command point takes
   lent-live FLAG ..         the same with what command lent-point takes
+  place V1 V2 V3 V4 N1 N2 N3 X Y Z D
+                            a point's placing: the cell K1 K2 K3, the axis order P R S, the weights L0 L1 L2 L3
+  value-at V1 V2 V3 V4 N1 N2 N3 K1 K2 K3 P R S L0 L1 L2 L3 BLOCK
+                            the answer at a placing by the recurrence
+  live-value-at FLAG ..     the live answer at a placing, with what command value-at takes
 
   vectors DIRECTORY         writes the stored vectors
   vectors --check DIRECTORY
@@ -81,6 +87,9 @@ fn run(arguments: &[String]) -> Outcome {
         ["lent-point", ..] => print(query::lent_point(&arguments[1..])?.as_bytes()),
         ["live", ..] => print(query::live(&arguments[1..])?.as_bytes()),
         ["lent-live", ..] => print(query::lent_live(&arguments[1..])?.as_bytes()),
+        ["place", ..] => print(placings::place(&arguments[1..])?.as_bytes()),
+        ["value-at", ..] => print(placings::value_at(&arguments[1..])?.as_bytes()),
+        ["live-value-at", ..] => print(placings::live_value_at(&arguments[1..])?.as_bytes()),
         ["vectors", "--check", directory] => check_vectors(Path::new(directory)),
         ["vectors", directory] => vectors::write(Path::new(directory)),
         _ => Err(USAGE.to_string()),

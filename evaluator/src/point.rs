@@ -51,7 +51,7 @@ impl fmt::Display for Fraction {
 /// The answer of an exact call.
 pub type Exact = Result<Fraction, Refusal>;
 
-/// A point that the checks up to 13 let pass.
+/// A point that 21, 22, 10, 11 and 12 let pass.
 pub struct Placed {
     pub multiplicities: Multiplicities,
     pub sizes: Sizes,
@@ -101,33 +101,49 @@ fn inside(extent: usize, size: usize, coordinate: u32, divisor: u32) -> bool {
     extent <= size && (first..=last).contains(&coordinate)
 }
 
-/// m! D^m of a call that passes 21, 22, 4, 9, 10, 11, which are checked in this order.
-pub fn denominator_of(call: &Call) -> Result<i128, Refusal> {
-    held(call).map(|(.., denominator)| denominator)
+/// Checks 21 and 22: what the unit has.
+pub fn held(unit: &Unit) -> Result<(Multiplicities, Sizes), Refusal> {
+    let multiplicities = unit.net().ok_or(Refusal::from(21))?;
+    Ok((multiplicities, unit.block().ok_or(Refusal::from(22))?))
 }
 
-/// Checks 21, 22, 4, 9, 10, 11, in this order: what the unit has, and m! D^m.
-fn held(call: &Call) -> Result<(Multiplicities, Sizes, i128), Refusal> {
-    let multiplicities = call.unit.net().ok_or(Refusal::from(21))?;
-    let sizes = call.unit.block().ok_or(Refusal::from(22))?;
+/// Those and then 4, 9: the multiplicities.
+fn lent(call: &Call) -> Result<Multiplicities, Refusal> {
+    let (multiplicities, sizes) = held(&call.unit)?;
     refuse_if(call.net_length < multiplicities.places(), 4)?;
     refuse_if(call.corrections.len().min(call.uncertainties.len()) < sizes.entries(), 9)?;
-    refuse_if(call.divisor == 0 || call.divisor > LARGEST_DIVISOR, 10)?;
-    let denominator = denominator(multiplicities.degree(), call.divisor);
-    refuse_if(denominator > LARGEST_DENOMINATOR, 11)?;
-    Ok((multiplicities, sizes, denominator))
+    Ok(multiplicities)
 }
 
-/// Those and then 12, 13.
-pub fn place(call: &Call) -> Result<Placed, Refusal> {
-    let (multiplicities, sizes, denominator) = held(call)?;
-    let divisor = call.divisor;
+/// Checks 10 and 11: m! D^m.
+fn allowed(degree: usize, divisor: u32) -> Result<i128, Refusal> {
+    refuse_if(divisor == 0 || divisor > LARGEST_DIVISOR, 10)?;
+    let denominator = denominator(degree, divisor);
+    refuse_if(denominator > LARGEST_DENOMINATOR, 11)?;
+    Ok(denominator)
+}
+
+/// m! D^m of a call that passes 21, 22, 4, 9, 10, 11, which are checked in this order.
+pub fn denominator_of(call: &Call) -> Result<i128, Refusal> {
+    allowed(lent(call)?.degree(), call.divisor)
+}
+
+/// The checks of a placing call: 21, 22, 10, 11, 12.
+pub fn place(unit: &Unit, coordinates: [u32; 3], divisor: u32) -> Result<Placed, Refusal> {
+    let (multiplicities, sizes) = held(unit)?;
+    let denominator = allowed(multiplicities.degree(), divisor)?;
     let (extents, axes) = (multiplicities.extents(), sizes.axes());
-    let inside = (0..3).all(|b| inside(extents[b], axes[b], call.coordinates[b], divisor));
+    let inside = (0..3).all(|b| inside(extents[b], axes[b], coordinates[b], divisor));
     refuse_if(!inside, 12)?;
-    let quotient = call.coordinates.map(|c| (c / divisor) as usize);
-    let remainder = call.coordinates.map(|c| c % divisor);
-    let placed = Placed { multiplicities, sizes, quotient, remainder, divisor, denominator };
+    let quotient = coordinates.map(|c| (c / divisor) as usize);
+    let remainder = coordinates.map(|c| c % divisor);
+    Ok(Placed { multiplicities, sizes, quotient, remainder, divisor, denominator })
+}
+
+/// The checks of a point call but 23: 21, 22, 4, 9, then those of its placing that are left, then 13.
+pub fn checked(call: &Call) -> Result<Placed, Refusal> {
+    lent(call)?;
+    let placed = place(&call.unit, call.coordinates, call.divisor)?;
     let gap = placed.window().find(|&(index, _)| call.corrections[index] == NEVER_MEASURED);
     match gap {
         Some((index, _)) => Err(Refusal::at(13, index)),
@@ -156,7 +172,7 @@ fn sum_over_block(call: &Call, placed: &Placed, value: impl Fn([i64; 3]) -> i64)
 }
 
 pub fn answer(call: &Call) -> Exact {
-    let placed = place(call)?;
+    let placed = checked(call)?;
     let mut translates = translates(&placed);
     let table = translates.table(&placed.multiplicities.counts());
     Ok(sum_over_block(call, &placed, |l| table.at(l)))
@@ -164,7 +180,7 @@ pub fn answer(call: &Call) -> Exact {
 
 /// As `answer`, each M(x - j) by itself and without tables.
 pub fn answer_without_tables(call: &Call) -> Exact {
-    let placed = place(call)?;
+    let placed = checked(call)?;
     let translates = translates(&placed);
     let counts = placed.multiplicities.counts();
     Ok(sum_over_block(call, &placed, |l| translates.alone(&counts, l)))

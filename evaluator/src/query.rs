@@ -1,5 +1,7 @@
 //! The commands that take numbers: their arguments, and what they print.
 
+pub mod placings;
+
 use crate::field::{self, Block};
 use crate::formats::listing;
 use crate::lent;
@@ -33,6 +35,11 @@ fn multiplicities(numbers: &[u32]) -> Result<Multiplicities, String> {
     v.ok_or_else(|| "four multiplicities, each at least 1, of sum at most 12".to_string())
 }
 
+fn sizes(numbers: &[u32]) -> Result<Sizes, String> {
+    let n = <[u32; 3]>::try_from(numbers).ok().and_then(|n| Sizes::new(n.map(|n| n as usize)));
+    n.ok_or_else(|| "three sizes from 1 to 64, of product at most 4096".to_string())
+}
+
 /// The block of a field file or of a seed; a file may be refused.
 fn block(sizes: Sizes, option: &str, value: &str) -> Result<Result<Block, Refusal>, String> {
     match option {
@@ -52,11 +59,10 @@ fn block(sizes: Sizes, option: &str, value: &str) -> Result<Result<Block, Refusa
 fn query(arguments: &[String]) -> Result<Query<'_>, String> {
     let (head, rest) = arguments.split_at_checked(NUMBERS).ok_or("eleven numbers and a block")?;
     let numbers = numbers(head)?;
-    let sizes = Sizes::new([4, 5, 6].map(|i| numbers[i] as usize)).ok_or("sizes from 1 to 64, product at most 4096")?;
     let [option, value, rest @ ..] = rest else { return Err("--file or --seed is missing".to_string()) };
     Ok(Query {
         multiplicities: multiplicities(&numbers[..4])?,
-        block: block(sizes, option, value)?,
+        block: block(sizes(&numbers[4..7])?, option, value)?,
         coordinates: [7, 8, 9].map(|i| numbers[i]),
         divisor: numbers[10],
         rest,
@@ -185,13 +191,15 @@ fn parse_listed(line: &str) -> Option<([usize; 3], u32)> {
     Some(([x, y, z].map(|c| c as usize), number))
 }
 
+/// Arguments as they are typed.
+#[cfg(test)]
+fn words(text: &str) -> Vec<String> {
+    text.split(' ').map(String::from).collect()
+}
+
 #[cfg(test)]
 mod tests {
     use super::*;
-
-    fn words(text: &str) -> Vec<String> {
-        text.split(' ').map(String::from).collect()
-    }
 
     #[test]
     fn both_ways_give_one_answer() {

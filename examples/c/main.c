@@ -1,5 +1,6 @@
 /* A unit from C: the factory's net is copied and inspected, a field file loaded, points answered, exactly and
-   live, and another net built. Run with the path of a field file. */
+   live, a point placed once for both axes of a stage, and another net built. Run with the paths of two field
+   files of the same sizes, one for each axis. */
 #include "torskavel.h"
 
 #include <inttypes.h>
@@ -11,8 +12,10 @@
 
 static uint32_t net[PLACES], defined[PLACES];
 static int32_t work[PLACES];
-static int16_t corrections[TORSKAVEL_MAX_ENTRIES];
-static uint16_t uncertainties[TORSKAVEL_MAX_ENTRIES];
+static struct block {
+    int16_t corrections[TORSKAVEL_MAX_ENTRIES];
+    uint16_t uncertainties[TORSKAVEL_MAX_ENTRIES];
+} first, second; /* of the two axes */
 static uint8_t file[TORSKAVEL_MAX_FILE + 1]; /* one byte more, so that too long a file is seen */
 
 /* Whether the call was refused; then the line ends with the refusal. */
@@ -64,10 +67,10 @@ static size_t read_file(const char *path) {
     return length;
 }
 
-static struct torskavel_unit load(struct torskavel_unit unit, size_t length) {
+static struct torskavel_unit load(struct torskavel_unit unit, size_t length, struct block *block) {
     printf("load %zu bytes: ", length);
-    struct torskavel_unit_answer a =
-        torskavel_load(unit, file, length, corrections, TORSKAVEL_MAX_ENTRIES, uncertainties, TORSKAVEL_MAX_ENTRIES);
+    struct torskavel_unit_answer a = torskavel_load(
+        unit, file, length, block->corrections, TORSKAVEL_MAX_ENTRIES, block->uncertainties, TORSKAVEL_MAX_ENTRIES);
     if (!refused(a.number, a.place)) printf("block %d %d %d\n", a.unit.n1, a.unit.n2, a.unit.n3);
     return a.unit;
 }
@@ -76,23 +79,22 @@ static void asked(const char *call, uint32_t x, uint32_t y, uint32_t z, uint32_t
     printf("%s (%" PRIu32 ", %" PRIu32 ", %" PRIu32 ")/%" PRIu32, call, x, y, z, divisor);
 }
 
-static void answer(struct torskavel_unit unit, uint32_t x, uint32_t y, uint32_t z, uint32_t divisor) {
-    asked("point", x, y, z, divisor);
-    printf(": ");
-    struct torskavel_point_answer a = torskavel_answer(
-        unit, net, PLACES, corrections, TORSKAVEL_MAX_ENTRIES, uncertainties, TORSKAVEL_MAX_ENTRIES, x, y, z, divisor);
+/* Prints the shift and its uncertainty, or the refusal. */
+static void answered(struct torskavel_point_answer a) {
     if (refused(a.number, a.place)) return;
     printf("shift %" PRId64 "/%" PRIu64 ", ", a.numerator, a.denominator);
     printf("uncertainty %" PRIu64 "/%" PRIu64 "\n", a.uncertainty, a.denominator);
 }
 
-/* Prints N and U, and what they are once divided. */
-static void live(
-    struct torskavel_unit unit, uint32_t x, uint32_t y, uint32_t z, uint32_t divisor, bool with_uncertainty) {
-    asked("live", x, y, z, divisor);
-    printf(with_uncertainty ? ": " : ", uncertainty switched off: ");
-    struct torskavel_live_point_answer a = torskavel_live_answer(unit, net, PLACES, corrections,
-        TORSKAVEL_MAX_ENTRIES, uncertainties, TORSKAVEL_MAX_ENTRIES, x, y, z, divisor, with_uncertainty);
+static void answer(struct torskavel_unit unit, uint32_t x, uint32_t y, uint32_t z, uint32_t divisor) {
+    asked("point", x, y, z, divisor);
+    printf(": ");
+    answered(torskavel_answer(unit, net, PLACES, first.corrections, TORSKAVEL_MAX_ENTRIES, first.uncertainties,
+        TORSKAVEL_MAX_ENTRIES, x, y, z, divisor));
+}
+
+/* Prints N and U, and what they are once divided, or the refusal. */
+static void live_answered(struct torskavel_live_point_answer a, uint32_t divisor, bool with_uncertainty) {
     if (refused(a.number, a.place)) return;
     /* m! * divisor^m, where m is 4: a unit that is asked point after point works it out once */
     const double over = 24.0 * divisor * divisor * divisor * divisor;
@@ -101,26 +103,73 @@ static void live(
     printf("\n");
 }
 
+static void live(
+    struct torskavel_unit unit, uint32_t x, uint32_t y, uint32_t z, uint32_t divisor, bool with_uncertainty) {
+    asked("live", x, y, z, divisor);
+    printf(with_uncertainty ? ": " : ", uncertainty switched off: ");
+    struct torskavel_live_point_answer a = torskavel_live_answer(unit, net, PLACES, first.corrections,
+        TORSKAVEL_MAX_ENTRIES, first.uncertainties, TORSKAVEL_MAX_ENTRIES, x, y, z, divisor, with_uncertainty);
+    live_answered(a, divisor, with_uncertainty);
+}
+
+static struct torskavel_placing place(
+    struct torskavel_unit unit, uint32_t x, uint32_t y, uint32_t z, uint32_t divisor) {
+    asked("place", x, y, z, divisor);
+    printf(": ");
+    const struct torskavel_placing_answer a = torskavel_place(unit, x, y, z, divisor);
+    const struct torskavel_placing q = a.placing;
+    if (!refused(a.number, a.place)) {
+        printf("cell %" PRIu32 " %" PRIu32 " %" PRIu32 ", axis order %d %d %d, ", q.k1, q.k2, q.k3, q.p, q.r, q.s);
+        printf("weights %" PRIu32 " %" PRIu32 " %" PRIu32 " %" PRIu32 "\n", q.l0, q.l1, q.l2, q.l3);
+    }
+    return q;
+}
+
+/* Values a placing exactly and live. */
+static void value(
+    const char *name, struct torskavel_unit unit, const struct block *block, struct torskavel_placing placing) {
+    const int16_t *c = block->corrections;
+    const uint16_t *u = block->uncertainties;
+    const size_t length = TORSKAVEL_MAX_ENTRIES;
+    printf("value, %s: ", name);
+    answered(torskavel_value(unit, net, PLACES, c, length, u, length, placing));
+    printf("live value, %s: ", name);
+    const uint32_t divisor = placing.l0 + placing.l1 + placing.l2 + placing.l3;
+    live_answered(torskavel_live_value(unit, net, PLACES, c, length, u, length, placing, true), divisor, true);
+}
+
+/* One placing for both axes of the stage. The point is on the far face of a block with 3 entries on axis 2: in a
+   block with 4 entries there no point has this placing. */
+static void stage(struct torskavel_unit unit) {
+    const struct torskavel_placing placing = place(unit, 5, 6, 5, 2);
+    value("first axis", unit, &first, placing);
+    value("second axis", unit, &second, placing);
+    unit.n2 = 4;
+    value("another block", unit, &first, placing);
+}
+
 int main(int count, char **words) {
-    if (count != 2) {
-        fprintf(stderr, "usage: %s FIELD-FILE\n", words[0]);
+    if (count != 3) {
+        fprintf(stderr, "usage: %s FIELD-FILE FIELD-FILE\n", words[0]);
         return 1;
     }
     struct torskavel_unit unit = torskavel_empty_unit();
     answer(unit, 5, 5, 5, 2);
     unit = factory(unit);
     const size_t length = read_file(words[1]);
-    unit = load(unit, length);
+    unit = load(unit, length, &first);
     answer(unit, 5, 5, 5, 2);
     answer(unit, 5, 6, 5, 2); /* on the far face of axis 2, which has 3 entries: 6 is 3 * 2 */
     answer(unit, 5, 7, 5, 2); /* past it */
     answer(unit, 7, 5, 5, 2);
     if (length >= 2) file[length - 2] = 11; /* an uncertainty for the last entry, which was never measured */
-    unit = load(unit, length);
+    unit = load(unit, length, &first);
     live(unit, 5, 5, 5, 2, true);
     live(unit, 5, 5, 5, 2, false);
     answer(unit, 690, 690, 690, 276); /* the same point, over a divisor that is too large for a live call */
     live(unit, 690, 690, 690, 276, true);
+    unit = load(unit, read_file(words[2]), &second);
+    stage(unit);
     unit = inspect(unit);
     net[0] = 1;
     unit = inspect(unit);

@@ -1,32 +1,39 @@
 //! A unit from Rust: the factory's net is copied and inspected, a field file loaded, points answered, exactly
-//! and live, and another net built. Run with the path of a field file.
+//! and live, a point placed once for both axes of a stage, and another net built. Run with the paths of two
+//! field files of the same sizes, one for each axis.
 
 #[path = "../../include/torskavel.rs"]
 mod torskavel;
 
-use torskavel::{Unit, UnitAnswer};
+use torskavel::{LivePointAnswer, Placing, PointAnswer, Unit, UnitAnswer};
 
 /// For the larger of the two nets. That of the factory has `torskavel::FACTORY_PLACES`.
 const PLACES: usize = torskavel::places([3, 2, 2, 1]);
 const ENTRIES: usize = 4096;
 
-/// The slices that the unit's numbers stand in.
-struct Slices {
-    net: Vec<u32>,
-    defined: Vec<u32>,
-    work: Vec<i32>,
+struct Block {
     corrections: Vec<i16>,
     uncertainties: Vec<u16>,
 }
 
+/// The slices that the unit's numbers stand in, with a block for each axis of the stage.
+struct Slices {
+    net: Vec<u32>,
+    defined: Vec<u32>,
+    work: Vec<i32>,
+    first: Block,
+    second: Block,
+}
+
 impl Slices {
     fn new() -> Slices {
+        let block = || Block { corrections: vec![0; ENTRIES], uncertainties: vec![0; ENTRIES] };
         Slices {
             net: vec![0; PLACES],
             defined: vec![0; PLACES],
             work: vec![0; PLACES],
-            corrections: vec![0; ENTRIES],
-            uncertainties: vec![0; ENTRIES],
+            first: block(),
+            second: block(),
         }
     }
 }
@@ -72,44 +79,81 @@ fn inspect(unit: Unit, slices: &mut Slices) -> Unit {
     a.unit
 }
 
-fn load(unit: Unit, file: &[u8], slices: &mut Slices) -> Unit {
-    let a = torskavel::load(unit, file, &mut slices.corrections, &mut slices.uncertainties);
+fn load(unit: Unit, file: &[u8], block: &mut Block) -> Unit {
+    let a = torskavel::load(unit, file, &mut block.corrections, &mut block.uncertainties);
     let Unit { n1, n2, n3, .. } = a.unit;
     report(&format!("load {} bytes", file.len()), a.number, a.place, format!("block {n1} {n2} {n3}"));
     a.unit
 }
 
-fn answer(unit: Unit, [x, y, z]: [u32; 3], divisor: u32, slices: &Slices) {
-    let Slices { net, corrections, uncertainties, .. } = slices;
-    let a = torskavel::answer(unit, net, corrections, uncertainties, [x, y, z], divisor);
+/// Prints the shift and its uncertainty, or the refusal.
+fn answered(call: &str, a: PointAnswer) {
     let (n, u, over) = (a.numerator, a.uncertainty, a.denominator);
-    let call = format!("point ({x}, {y}, {z})/{divisor}");
-    report(&call, a.number, a.place, format!("shift {n}/{over}, uncertainty {u}/{over}"));
+    report(call, a.number, a.place, format!("shift {n}/{over}, uncertainty {u}/{over}"));
 }
 
-/// Prints N and U, and what they are once divided.
-fn live(unit: Unit, [x, y, z]: [u32; 3], divisor: u32, with_uncertainty: bool, slices: &Slices) {
-    let Slices { net, corrections, uncertainties, .. } = slices;
-    let a = torskavel::live_answer(unit, net, corrections, uncertainties, [x, y, z], divisor, with_uncertainty);
+fn answer(unit: Unit, [x, y, z]: [u32; 3], divisor: u32, Slices { net, first, .. }: &Slices) {
+    let a = torskavel::answer(unit, net, &first.corrections, &first.uncertainties, [x, y, z], divisor);
+    answered(&format!("point ({x}, {y}, {z})/{divisor}"), a);
+}
+
+/// Prints N and U, and what they are once divided, or the refusal.
+fn live_answered(call: &str, a: LivePointAnswer, divisor: u32, with_uncertainty: bool) {
     let (n, u) = (a.numerator, a.uncertainty);
     // m! times divisor^m, where m is 4: a unit that is asked point after point works it out once
     let over = 24.0 * f64::from(divisor).powi(4);
     let shift = format!("N {n:.1}, shift {:.4}", n / over);
-    let (how, given) = match with_uncertainty {
-        true => ("", format!("{shift}, U {u:.1}, uncertainty {:.4}", u / over)),
-        false => (", uncertainty switched off", shift),
+    let given = match with_uncertainty {
+        true => format!("{shift}, U {u:.1}, uncertainty {:.4}", u / over),
+        false => shift,
     };
-    report(&format!("live ({x}, {y}, {z})/{divisor}{how}"), a.number, a.place, given);
+    report(call, a.number, a.place, given);
+}
+
+fn live(unit: Unit, [x, y, z]: [u32; 3], divisor: u32, with: bool, Slices { net, first, .. }: &Slices) {
+    let Block { corrections, uncertainties } = first;
+    let a = torskavel::live_answer(unit, net, corrections, uncertainties, [x, y, z], divisor, with);
+    let how = if with { "" } else { ", uncertainty switched off" };
+    live_answered(&format!("live ({x}, {y}, {z})/{divisor}{how}"), a, divisor, with);
+}
+
+fn place(unit: Unit, [x, y, z]: [u32; 3], divisor: u32) -> Placing {
+    let a = torskavel::place(unit, [x, y, z], divisor);
+    let Placing { k1, k2, k3, p, r, s, l0, l1, l2, l3 } = a.placing;
+    let given = format!("cell {k1} {k2} {k3}, axis order {p} {r} {s}, weights {l0} {l1} {l2} {l3}");
+    report(&format!("place ({x}, {y}, {z})/{divisor}"), a.number, a.place, given);
+    a.placing
+}
+
+/// Values a placing exactly and live.
+fn value(name: &str, unit: Unit, net: &[u32], block: &Block, placing: Placing) {
+    let Block { corrections, uncertainties } = block;
+    let a = torskavel::value(unit, net, corrections, uncertainties, placing);
+    answered(&format!("value, {name}"), a);
+    let a = torskavel::live_value(unit, net, corrections, uncertainties, placing, true);
+    let divisor = placing.l0 + placing.l1 + placing.l2 + placing.l3;
+    live_answered(&format!("live value, {name}"), a, divisor, true);
+}
+
+/// One placing for both axes of the stage. The point is on the far face of a block with 3 entries on axis 2: in
+/// a block with 4 entries there no point has this placing.
+fn stage(unit: Unit, Slices { net, first, second, .. }: &Slices) {
+    let placing = place(unit, [5, 6, 5], 2);
+    value("first axis", unit, net, first, placing);
+    value("second axis", unit, net, second, placing);
+    value("another block", Unit { n2: 4, ..unit }, net, first, placing);
 }
 
 fn main() {
-    let path = std::env::args().nth(1).expect("the path of a field file");
+    let mut paths = std::env::args().skip(1);
+    let mut next = || paths.next().expect("the paths of two field files");
+    let [path, second] = [next(), next()];
     let mut slices = Slices::new();
     let mut unit = torskavel::empty_unit();
     answer(unit, [5, 5, 5], 2, &slices);
     unit = factory(unit, &mut slices);
     let mut file = std::fs::read(path).unwrap_or_default();
-    unit = load(unit, &file, &mut slices);
+    unit = load(unit, &file, &mut slices.first);
     // The second is on the far face of axis 2, which has 3 entries: 6 is 3 times 2. The third is past it.
     for point in [[5, 5, 5], [5, 6, 5], [5, 7, 5], [7, 5, 5]] {
         answer(unit, point, 2, &slices);
@@ -118,12 +162,14 @@ fn main() {
     if let [.., low, _] = &mut file[..] {
         *low = 11;
     }
-    unit = load(unit, &file, &mut slices);
+    unit = load(unit, &file, &mut slices.first);
     live(unit, [5, 5, 5], 2, true, &slices);
     live(unit, [5, 5, 5], 2, false, &slices);
     // the same point, over a divisor that is too large for a live call
     answer(unit, [690, 690, 690], 276, &slices);
     live(unit, [690, 690, 690], 276, true, &slices);
+    unit = load(unit, &std::fs::read(second).unwrap_or_default(), &mut slices.second);
+    stage(unit, &slices);
     unit = inspect(unit, &mut slices);
     slices.net[0] = 1;
     unit = inspect(unit, &mut slices);

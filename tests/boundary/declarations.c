@@ -49,12 +49,13 @@ static void show_refusals(void) {
     SHOW(REFUSED_NET_DIFFERS);
     SHOW(REFUSED_LIVE_DENOMINATOR);
     SHOW(REFUSED_UNCERTAIN_GAP);
+    SHOW(REFUSED_PLACING);
     SHOW(REFUSED_NO_NET);
     SHOW(REFUSED_NO_BLOCK);
     SHOW(REFUSED_SHARES);
 }
 
-static void show_layouts(void) {
+static void show_records(void) {
     SHOW_SIZE(unit);
     SHOW_FIELD(unit, has_net);
     SHOW_FIELD(unit, v1);
@@ -65,10 +66,28 @@ static void show_layouts(void) {
     SHOW_FIELD(unit, n1);
     SHOW_FIELD(unit, n2);
     SHOW_FIELD(unit, n3);
+    SHOW_SIZE(placing);
+    SHOW_FIELD(placing, k1);
+    SHOW_FIELD(placing, k2);
+    SHOW_FIELD(placing, k3);
+    SHOW_FIELD(placing, p);
+    SHOW_FIELD(placing, r);
+    SHOW_FIELD(placing, s);
+    SHOW_FIELD(placing, l0);
+    SHOW_FIELD(placing, l1);
+    SHOW_FIELD(placing, l2);
+    SHOW_FIELD(placing, l3);
+}
+
+static void show_answers(void) {
     SHOW_SIZE(unit_answer);
     SHOW_FIELD(unit_answer, number);
     SHOW_FIELD(unit_answer, place);
     SHOW_FIELD(unit_answer, unit);
+    SHOW_SIZE(placing_answer);
+    SHOW_FIELD(placing_answer, number);
+    SHOW_FIELD(placing_answer, place);
+    SHOW_FIELD(placing_answer, placing);
     SHOW_SIZE(point_answer);
     SHOW_FIELD(point_answer, number);
     SHOW_FIELD(point_answer, place);
@@ -100,7 +119,8 @@ static void show_macros(void) {
 int main(void) {
     show_constants();
     show_refusals();
-    show_layouts();
+    show_records();
+    show_answers();
     show_macros();
     return 0;
 }

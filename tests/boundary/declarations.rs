@@ -4,7 +4,7 @@
 mod torskavel;
 
 use std::mem::{offset_of, size_of};
-use torskavel::{LivePointAnswer, PointAnswer, Unit, UnitAnswer};
+use torskavel::{LivePointAnswer, Placing, PlacingAnswer, PointAnswer, Unit, UnitAnswer};
 
 macro_rules! show {
     ($module:path, $prefix:literal: $($name:ident)*) => {{
@@ -27,12 +27,14 @@ fn show_constants() {
         FACTORY_PLACES);
     show!(torskavel::refused, "REFUSED_": NOT ORDER_LENGTH ORDER_BYTE MULTIPLICITIES NET_LENGTH FILE_HEADER SIZES
         FILE_LENGTH UNCERTAINTY BLOCK_LENGTH DIVISOR DENOMINATOR OUTSIDE UNMEASURED NET_DIFFERS LIVE_DENOMINATOR
-        UNCERTAIN_GAP NO_NET NO_BLOCK SHARES);
+        UNCERTAIN_GAP PLACING NO_NET NO_BLOCK SHARES);
 }
 
 fn show_layouts() {
     show_fields!("unit", Unit: has_net v1 v2 v3 v4 has_block n1 n2 n3);
+    show_fields!("placing", Placing: k1 k2 k3 p r s l0 l1 l2 l3);
     show_fields!("unit_answer", UnitAnswer: number place unit);
+    show_fields!("placing_answer", PlacingAnswer: number place placing);
     show_fields!("point_answer", PointAnswer: number place numerator uncertainty denominator);
     show_fields!("live_point_answer", LivePointAnswer: number place numerator uncertainty);
 }

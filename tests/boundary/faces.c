@@ -1,46 +1,17 @@
 /* Points on the far faces of a block, where a coordinate is nb * divisor: they are answered, a step further is refused, by
-   the exact call and by the live call. What is expected was worked out by hand, or is the constant of a block. */
+   the exact call and by the live call, in one call and placed first. What is expected was worked out by hand, or is the
+   constant of a block. */
 #include "expect.h"
 #include "live.h"
+#include "placings.h"
+#include "scene.h"
 #include "torskavel.h"
 
 #include <stdlib.h>
 
 #define OUTSIDE TORSKAVEL_REFUSED_OUTSIDE
 
-static uint32_t net[TORSKAVEL_MAX_PLACES];
-static int32_t work[TORSKAVEL_MAX_PLACES];
-static int16_t corrections[TORSKAVEL_MAX_ENTRIES];
-static uint16_t uncertainties[TORSKAVEL_MAX_ENTRIES];
-
-/* The unit with the net of v1 to v4, which is built, and a block of one correction and one uncertainty. */
-static struct torskavel_unit unit_of(const uint8_t v[4], const uint16_t n[3], int16_t correction, uint16_t uncertainty) {
-    uint8_t order[TORSKAVEL_MAX_ORDER];
-    size_t length = 0;
-    for (uint8_t d = 1; d <= 4; d++)
-        for (unsigned i = 1; i < v[d - 1]; i++) order[length++] = d;
-    const struct torskavel_unit_answer a = torskavel_build(
-        torskavel_empty_unit(), order, length, net, TORSKAVEL_MAX_PLACES, work, TORSKAVEL_MAX_PLACES);
-    EXPECT(a.number == 0);
-    struct torskavel_unit unit = a.unit;
-    unit.has_block = 1;
-    unit.n1 = n[0];
-    unit.n2 = n[1];
-    unit.n3 = n[2];
-    for (size_t i = 0; i < TORSKAVEL_MAX_ENTRIES; i++) {
-        corrections[i] = correction;
-        uncertainties[i] = uncertainty;
-    }
-    return unit;
-}
-
-static uint64_t denominator(size_t degree, uint64_t divisor) {
-    uint64_t product = 1;
-    for (size_t i = 1; i <= degree; i++) product *= i * divisor;
-    return product;
-}
-
-/* What both calls answer, and whether the live call meets 15 before it looks at the point. */
+/* What the exact and the live call answer, and whether the live call meets 15 before it looks at the point. */
 struct both {
     struct torskavel_point_answer exact;
     struct torskavel_live_point_answer live;
@@ -50,12 +21,11 @@ struct both {
 static struct both answer(struct torskavel_unit unit, uint32_t x, uint32_t y, uint32_t z, uint32_t d) {
     const uint64_t over = denominator(TORSKAVEL_DEGREE(unit.v1, unit.v2, unit.v3, unit.v4), d);
     const struct both a = {
-        torskavel_answer(unit, net, TORSKAVEL_MAX_PLACES, corrections, TORSKAVEL_MAX_ENTRIES, uncertainties,
-            TORSKAVEL_MAX_ENTRIES, x, y, z, d),
-        torskavel_live_answer(unit, net, TORSKAVEL_MAX_PLACES, corrections, TORSKAVEL_MAX_ENTRIES, uncertainties,
-            TORSKAVEL_MAX_ENTRIES, x, y, z, d, 1),
+        torskavel_answer(unit, LENT, x, y, z, d),
+        torskavel_live_answer(unit, LENT, x, y, z, d, 1),
         over > TORSKAVEL_MAX_LIVE_DENOMINATOR,
     };
+    EXPECT(in_two_calls(unit, x, y, z, d));
     return a;
 }
 
@@ -108,12 +78,6 @@ static void what_counts_nothing(void) {
     corrections[1] = -7;
     net[0] = 1; /* a share of (2,1,1) at the cell's low corner, whose weight is 0 */
     EXPECT(refuses(answer(unit, 3, 1, 1, 1), TORSKAVEL_REFUSED_SHARES, 0));
-}
-
-static uint32_t largest_divisor(size_t degree, uint64_t largest) {
-    uint32_t most = 1; /* from below, so that no product is past 64 bits */
-    while (most < TORSKAVEL_MAX_DIVISOR && denominator(degree, most + 1) <= largest) most++;
-    return most;
 }
 
 /* A constant block answers the constant on each face, edge and corner, and a step past any of these faces is refused. The

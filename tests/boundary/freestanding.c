@@ -25,7 +25,8 @@ void *memcpy(void *restrict to, const void *restrict from, size_t count) {
     return to;
 }
 
-/* A net built, copied and inspected, a file loaded, a point asked by both calls: 0 where none was refused. */
+/* A net built, copied and inspected, a file loaded, a point asked by both calls, placed and valued: 0 where none was
+   refused. */
 static uint32_t run(void) {
     struct torskavel_unit_answer a = torskavel_build(torskavel_empty_unit(), order, 3, net, PLACES, work, PLACES);
     if (a.number != 0) return a.number;
@@ -35,10 +36,18 @@ static uint32_t run(void) {
     if (a.number != 0) return a.number;
     a = torskavel_load(a.unit, file, sizeof file, corrections, ENTRIES, uncertainties, ENTRIES);
     if (a.number != 0) return a.number;
-    const uint32_t number =
+    uint32_t number =
         torskavel_answer(a.unit, net, PLACES, corrections, ENTRIES, uncertainties, ENTRIES, 5, 5, 5, 2).number;
     if (number != 0) return number;
-    return torskavel_live_answer(a.unit, net, PLACES, corrections, ENTRIES, uncertainties, ENTRIES, 5, 5, 5, 2, 1).number;
+    number =
+        torskavel_live_answer(a.unit, net, PLACES, corrections, ENTRIES, uncertainties, ENTRIES, 5, 5, 5, 2, 1).number;
+    if (number != 0) return number;
+    const struct torskavel_placing_answer placed = torskavel_place(a.unit, 5, 5, 5, 2);
+    if (placed.number != 0) return placed.number;
+    const struct torskavel_placing q = placed.placing;
+    number = torskavel_value(a.unit, net, PLACES, corrections, ENTRIES, uncertainties, ENTRIES, q).number;
+    if (number != 0) return number;
+    return torskavel_live_value(a.unit, net, PLACES, corrections, ENTRIES, uncertainties, ENTRIES, q, 1).number;
 }
 
 /* Linux enters here with an aligned stack and no return address; exit is its call 60. */

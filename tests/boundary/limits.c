@@ -1,6 +1,6 @@
-/* Holds every constant of torskavel.h to what the calls do: the last value within each limit passes, the first past it is
+/* Holds every constant of the headers to what the calls do: the last value within each limit passes, the first past it is
    refused, every refusal number is met, and macros give just what a call needs. The live call's are held in
-   live.c, 16 in gaps.c, the places of the factory shape in factory.c. */
+   live.c, 16 in gaps.c, 17 in placings.c, the places of the factory shape in factory.c. */
 #include "expect.h"
 #include "torskavel.h"
 

@@ -2,37 +2,25 @@
    that it takes. What is expected was worked out by hand, or is the constant of a block. */
 #include "expect.h"
 #include "live.h"
+#include "scene.h"
 #include "torskavel.h"
 
 #include <stdlib.h>
 #include <xmmintrin.h>
 
-enum { PLACES = TORSKAVEL_MAX_PLACES, ENTRIES = TORSKAVEL_MAX_ENTRIES, ROUNDED = 0x20 };
+enum { ROUNDED = 0x20 };
 
-static uint32_t net[PLACES];
-static int32_t work[PLACES];
-static int16_t corrections[ENTRIES];
-static uint16_t uncertainties[ENTRIES];
-
-/* The unit with the net of a degree, built with repeats of direction 1, and a block of one correction and one
-   uncertainty. */
-static struct torskavel_unit unit_of(uint8_t degree, const uint16_t n[3], int16_t correction,
-                                     uint16_t uncertainty) {
-    static const uint8_t order[TORSKAVEL_MAX_ORDER] = {1, 1, 1, 1, 1, 1, 1, 1};
-    const struct torskavel_unit unit = {1, degree, 1, 1, 1, 1, n[0], n[1], n[2]};
-    EXPECT(torskavel_build(unit, order, degree - 1u, net, PLACES, work, PLACES).number == 0);
-    for (size_t i = 0; i < ENTRIES; i++) {
-        corrections[i] = correction;
-        uncertainties[i] = uncertainty;
-    }
-    return unit;
+/* The unit with the net of a degree, by repeats of direction 1. */
+static struct torskavel_unit unit_of_degree(
+    uint8_t degree, const uint16_t n[3], int16_t correction, uint16_t uncertainty) {
+    const uint8_t v[4] = {degree, 1, 1, 1};
+    return unit_of(v, n, correction, uncertainty);
 }
 
 typedef struct torskavel_live_point_answer answer;
 
 static answer live(struct torskavel_unit unit, uint32_t x, uint32_t y, uint32_t z, uint32_t d) {
-    return torskavel_live_answer(
-        unit, net, PLACES, corrections, ENTRIES, uncertainties, ENTRIES, x, y, z, d, 1);
+    return torskavel_live_answer(unit, LENT, x, y, z, d, 1);
 }
 
 static int gives(answer a, double numerator, double uncertainty) {
@@ -41,18 +29,6 @@ static int gives(answer a, double numerator, double uncertainty) {
 
 static int refuses(answer a, uint32_t number, size_t place) {
     return live_gives(a, number, place, 0.0, 0.0);
-}
-
-/* The example of the specification's sections 8 to 11. */
-static struct torskavel_unit example(void) {
-    const uint16_t n[3] = {4, 3, 2};
-    const struct torskavel_unit unit = unit_of(2, n, 0, 3);
-    corrections[0] = 10;
-    corrections[1] = 20;
-    corrections[18] = -30;
-    corrections[23] = TORSKAVEL_NEVER_MEASURED;
-    uncertainties[23] = 0;
-    return unit;
 }
 
 static void by_hand(void) {
@@ -72,11 +48,11 @@ static void flags(void) {
     for (unsigned byte = 0; byte < 256; byte++) {
         const uint8_t flag = (uint8_t)byte;
         answer a;
-        a = torskavel_live_answer(unit, net, 175, corrections, 24, uncertainties, 24, 10, 5, 7, 4, flag);
+        a = torskavel_live_answer(unit, LENT_PART(175, 24), 10, 5, 7, 4, flag);
         EXPECT(gives(a, 40.0, byte == 0 ? 0.0 : 96.0));
         a = torskavel_live_answer(unit, net, 175, corrections, 24, uncertainties, 23, 10, 5, 7, 4, flag);
         EXPECT(refuses(a, TORSKAVEL_REFUSED_BLOCK_LENGTH, 0));
-        a = torskavel_live_answer(unit, net, 175, corrections, 24, uncertainties, 24, 12, 8, 4, 4, flag);
+        a = torskavel_live_answer(unit, LENT_PART(175, 24), 12, 8, 4, 4, flag);
         EXPECT(refuses(a, TORSKAVEL_REFUSED_UNMEASURED, 23));
     }
 }
@@ -85,7 +61,7 @@ static void flags(void) {
    net reads at a whole position the entry one before it on every axis, and half way between two half of both. */
 static void zeros(void) {
     const uint16_t n[3] = {2, 2, 2};
-    struct torskavel_unit unit = unit_of(1, n, 0, 0);
+    struct torskavel_unit unit = unit_of_degree(1, n, 0, 0);
     EXPECT(gives(live(unit, 1, 1, 1, 1), 0.0, 0.0));
     corrections[0] = 40;
     corrections[1] = -40;
@@ -94,17 +70,11 @@ static void zeros(void) {
     corrections[1] = 40;
     EXPECT(gives(live(unit, 3, 2, 2, 2), 0.0, 0.0));
     for (size_t entry = 0; entry < 8; entry++) {
-        unit = unit_of(1, n, -7, 5);
+        unit = unit_of_degree(1, n, -7, 5);
         corrections[entry] = 0;
         const uint32_t x = 1 + (entry & 1), y = 1 + (entry >> 1 & 1), z = 1 + (entry >> 2 & 1);
         EXPECT(gives(live(unit, x, y, z, 1), 0.0, 5.0));
     }
-}
-
-static uint64_t denominator(uint8_t degree, uint64_t divisor) {
-    uint64_t product = 1;
-    for (uint8_t i = 1; i <= degree; i++) product *= i * divisor;
-    return product;
 }
 
 /* The divisors that the header names: with them the largest numbers of a block are answered exactly; one more
@@ -114,7 +84,7 @@ static void divisors(void) {
     const uint16_t n[3] = {11, 3, 3};
     EXPECT(TORSKAVEL_MAX_LIVE_DENOMINATOR == UINT64_C(1) << 37);
     for (uint8_t degree = 1; degree <= TORSKAVEL_MAX_DEGREE; degree++) {
-        const struct torskavel_unit unit = unit_of(degree, n, -32767, 65535);
+        const struct torskavel_unit unit = unit_of_degree(degree, n, -32767, 65535);
         const uint32_t d = largest[degree - 1], past = d + 1;
         const double over = (double)denominator(degree, d);
         EXPECT(denominator(degree, d) <= TORSKAVEL_MAX_LIVE_DENOMINATOR);
@@ -125,8 +95,8 @@ static void divisors(void) {
         EXPECT(number == 10 || denominator(degree, past) > TORSKAVEL_MAX_LIVE_DENOMINATOR);
         EXPECT(refuses(live(unit, 10 * past, 2 * past, 2 * past, past), number, 0));
         EXPECT(refuses(live(unit, 0, 0, 0, past), number, 0));
-        const struct torskavel_point_answer exact = torskavel_answer(unit, net, PLACES, corrections, ENTRIES,
-            uncertainties, ENTRIES, 10 * past, 2 * past, 2 * past, past);
+        const struct torskavel_point_answer exact =
+            torskavel_answer(unit, LENT, 10 * past, 2 * past, 2 * past, past);
         EXPECT(number == 10 || (exact.number == 0 && exact.denominator == denominator(degree, past)));
     }
 }
@@ -134,7 +104,7 @@ static void divisors(void) {
 /* All that can be wrong at once, then mended check by check. */
 static void order_of_checks(void) {
     const uint16_t n[3] = {7, 3, 3};
-    const struct torskavel_unit held = unit_of(5, n, 1, 1);
+    const struct torskavel_unit held = unit_of_degree(5, n, 1, 1);
     const size_t places = TORSKAVEL_PLACES(5, 1, 1, 1), entries = TORSKAVEL_ENTRIES(7, 3, 3);
     struct { uint32_t number; size_t places, entries; uint32_t x, d; } steps[] = {
         {21, 0, 0, 0, 0}, {22, 0, 0, 0, 0}, {4, places - 1, 0, 0, 0}, {9, places, entries - 1, 0, 0},
@@ -150,8 +120,8 @@ static void order_of_checks(void) {
         corrections[entries - 1] = number == 23 || number == 0 ? 1 : TORSKAVEL_NEVER_MEASURED;
         net[0] = number != 0; /* no share stands there in the defined net */
         for (uint8_t flag = 0; flag < 2; flag++) {
-            const answer a = torskavel_live_answer(unit, net, steps[i].places, corrections, steps[i].entries,
-                uncertainties, steps[i].entries, steps[i].x, 2 * d, 2 * d, d, flag);
+            const answer a = torskavel_live_answer(unit, LENT_PART(steps[i].places, steps[i].entries),
+                steps[i].x, 2 * d, 2 * d, d, flag);
             EXPECT(number == 0 ? a.number == 0 : refuses(a, number, number == 13 ? entries - 1 : 0));
         }
     }

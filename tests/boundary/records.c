@@ -27,12 +27,18 @@ static struct torskavel_unit_answer load(struct torskavel_unit unit, size_t entr
     return torskavel_load(unit, file, sizeof file, corrections, entries, uncertainties, ENTRIES);
 }
 
-/* The number of both calls for a point, the second also with the uncertainty switched off. */
+/* The number of both calls for a point, the second also with the uncertainty switched off, and of the two that value its
+   placing. The placing call looks at no slice. */
 static uint32_t number_at_1(struct torskavel_unit unit, const uint32_t *lent, const int16_t *c, const uint16_t *u) {
     const size_t places = lent ? PLACES : 0, first = c ? ENTRIES : 0, second = u ? ENTRIES : 0;
     const uint32_t number = torskavel_answer(unit, lent, places, c, first, u, second, 1, 1, 1, 1).number;
     EXPECT(torskavel_live_answer(unit, lent, places, c, first, u, second, 1, 1, 1, 1, 1).number == number);
     EXPECT(torskavel_live_answer(unit, lent, places, c, first, u, second, 1, 1, 1, 1, 0).number == number);
+    const struct torskavel_placing placing = {1, 1, 1, 1, 2, 3, 1, 0, 0, 0};
+    EXPECT(torskavel_value(unit, lent, places, c, first, u, second, placing).number == number);
+    EXPECT(torskavel_live_value(unit, lent, places, c, first, u, second, placing, 1).number == number);
+    EXPECT(torskavel_live_value(unit, lent, places, c, first, u, second, placing, 0).number == number);
+    EXPECT(torskavel_place(unit, 1, 1, 1, 1).number == (number == NO_NET || number == NO_BLOCK ? number : 0));
     return number;
 }
 

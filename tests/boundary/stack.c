@@ -20,6 +20,7 @@ static uint8_t uncertain_gap[TORSKAVEL_MAX_FILE] = {
 static unsigned char stack[STACK] __attribute__((aligned(4096)));
 static struct torskavel_unit unit;
 static struct torskavel_unit_answer changed, refused;
+static struct torskavel_placing_answer placed;
 static struct torskavel_point_answer answered;
 static struct torskavel_live_point_answer live;
 
@@ -78,6 +79,27 @@ static void live_shift(void) {
         torskavel_live_answer(unit, net, PLACES, corrections, ENTRIES, uncertainties, ENTRIES, 22, 23, 24, 4, 0);
 }
 
+/* The placings of these points are valued. */
+static void place(void) {
+    placed = torskavel_place(unit, 50, 51, 52, 9);
+}
+
+static void place_live(void) {
+    placed = torskavel_place(unit, 22, 23, 24, 4);
+}
+
+static void value(void) {
+    answered = torskavel_value(unit, net, PLACES, corrections, ENTRIES, uncertainties, ENTRIES, placed.placing);
+}
+
+static void live_value(void) {
+    live = torskavel_live_value(unit, net, PLACES, corrections, ENTRIES, uncertainties, ENTRIES, placed.placing, 1);
+}
+
+static void live_value_shift(void) {
+    live = torskavel_live_value(unit, net, PLACES, corrections, ENTRIES, uncertainties, ENTRIES, placed.placing, 0);
+}
+
 /* How far below this function's frame a call goes, its arguments included; OWN or less counts as OWN. */
 static __attribute__((noinline)) size_t depth(void (*call)(void), unsigned char paint) {
     unsigned char *const here = (unsigned char *)__builtin_frame_address(0);
@@ -93,7 +115,7 @@ static void measure(const char *name, void (*call)(void), size_t most) {
     const size_t deepest = first > second ? first : second;
     printf("%s %zu\n", name, deepest);
     EXPECT(deepest <= most);
-    EXPECT(changed.number == 0 && answered.number == 0 && live.number == 0);
+    EXPECT(changed.number == 0 && placed.number == 0 && answered.number == 0 && live.number == 0);
     if (call == factory || call == build || call == inspect || call == load) unit = changed.unit;
 }
 
@@ -108,6 +130,11 @@ static void *run(void *unused) {
     measure("answer", answer, TORSKAVEL_MAX_STACK);
     measure("live_answer", live_answer, TORSKAVEL_MAX_STACK);
     measure("live_shift", live_shift, TORSKAVEL_MAX_STACK);
+    measure("place", place, TORSKAVEL_MAX_STACK_BUILD);
+    measure("value", value, TORSKAVEL_MAX_STACK);
+    measure("place_live", place_live, TORSKAVEL_MAX_STACK_BUILD);
+    measure("live_value", live_value, TORSKAVEL_MAX_STACK);
+    measure("live_value_shift", live_value_shift, TORSKAVEL_MAX_STACK);
     return unused;
 }
 

@@ -130,8 +130,8 @@ def check_step(prose):
 def check_refusals(by_heading):
     """Every number once, concerning whom `explain` says; checks and limits as the header has them."""
     told = {}
-    header = (ROOT / "include/torskavel.h").read_text()
-    limits = set(map(int, re.findall(r"(?m)^#define TORSKAVEL_MAX_\w+ (\d+)$", header))) | OTHERS
+    header, limits = ((ROOT / f"include/torskavel{part}.h").read_text() for part in ("", "_limits"))
+    limits = set(map(int, re.findall(r"(?m)^#define TORSKAVEL_MAX_\w+ (\d+)$", limits))) | OTHERS
     for heading, concerned in ACTS.items():
         for number, _call, why, to_do in (
             row for row in rows(by_heading[heading]) if row[0].isdigit() and len(row) == 4

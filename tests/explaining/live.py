@@ -39,7 +39,8 @@ def words(folder):
     """What 15 means, for a net of each degree."""
     path = folder / "good.field"
     path.write_bytes(field((6, 5, 4), [0] * 120, [1] * 120))
-    looked_at = "looked at in a live call alone, after 11 and before 12: the point itself was not looked at"
+    looked_at = "looked at in a live call alone, after 11 and before 12: the point itself was not looked at; "
+    looked_at += "of a placing after 17 and before 4"
     for m, divisor in enumerate(LARGEST_LIVE, 1):
         case = f"--refused 15, degree {m}"
         [(wrong, said)] = told(case, run(path, "4" * (m - 1), "--refused", 15, 0)[0])

@@ -9,15 +9,7 @@ from fractions import Fraction
 from evaluator import ask, net, widths
 from explaining.scene import LARGEST, SEED, Scene, random_numbers
 from explaining.told import Told, field, live, numbers, run, same
-
-
-def placing(point, divisor, sizes):
-    """Cell, remainders, axes and weights; a far face is in the last cell, with the divisor as remainder."""
-    cell = [x // divisor - (x == n * divisor) for x, n in zip(point, sizes)]
-    u = [x - k * divisor for x, k in zip(point, cell)]
-    axes = sorted(range(3), key=lambda b: (-u[b], b))
-    p, r, s = (u[b] for b in axes)
-    return cell, u, axes, [divisor - p, p - r, r - s, s]
+from placings import placing
 
 
 def check_place(case, scene, found, cell, axes, weights):

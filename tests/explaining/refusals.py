@@ -7,7 +7,7 @@ from explaining.faults import complained
 from explaining.scene import LARGEST, SEED, Scene, random_numbers
 from explaining.told import field, live, place, run, same, sections, stop
 
-NUMBERS = [*range(1, 17), 21, 22, 23]
+NUMBERS = [*range(1, 18), 21, 22, 23]
 CONCERNED = ("the fitter", "the surveyor", "firmware")
 REFUSED = 1  # the status
 
@@ -191,7 +191,7 @@ def asked(folder):
         begins("no entry", text, f"{number}: entry number 120, which this file does not have")
     begins("no net place", run(path, "132", "--refused", 14, 2197)[0], differs + "number 2197, which")
     begins("beside another", run(path, "9", "--refused", 21, 0, status=REFUSED)[0], "2: ", "21: ")
-    bad = [(number, 0) for number in (0, 17, 20, 24, -1, "x", 2**32)]
+    bad = [(number, 0) for number in (0, 18, 20, 24, -1, "x", 2**32)]
     for words in bad + [(13, "x"), (13, -1), (13,), (13, 0, 1, 1, 1, 1)]:
         complained(path, "132", "--refused", *words)
     return len(NUMBERS) + 17

@@ -10,13 +10,15 @@ import time
 from pathlib import Path
 
 sys.path.append(str(Path(__file__).resolve().parents[1]))
-from explaining import factory, faces, faults, help_line, live, page, points, refusals, uncertain_gaps
+from explaining import factory, faces, faults, help_line, impossible, live, page, placings, points, refusals
+from explaining import uncertain_gaps
 
 
 def main():
     began = time.monotonic()
     with tempfile.TemporaryDirectory() as folder:
-        parts = points, refusals, uncertain_gaps, faces, live, faults, page, factory, help_line
+        parts = points, refusals, uncertain_gaps, faces, live, placings, impossible
+        parts += faults, page, factory, help_line
         counts = [part.tried(Path(folder)) for part in parts]
     print(f"explain: {sum(counts)} runs as the evaluator has it, {time.monotonic() - began:.1f} s")
 

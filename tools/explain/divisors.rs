@@ -4,7 +4,7 @@ use crate::sums::denominator;
 use crate::torskavel::{MAX_DENOMINATOR, MAX_DIVISOR, MAX_LIVE_DENOMINATOR, refused};
 
 /// The largest divisor whose denominator is within a limit.
-fn largest(degree: usize, limit: u64) -> u32 {
+pub fn largest(degree: usize, limit: u64) -> u32 {
     let fits = |divisor: &u32| denominator(degree, *divisor) <= limit.into();
     (1..=MAX_DIVISOR).take_while(fits).last().unwrap_or(0)
 }
@@ -15,8 +15,8 @@ pub fn largest_live(degree: usize) -> u32 {
 }
 
 /// Where 15 stands among the checks.
-pub const LOOKED_AT: &str =
-    "looked at in a live call alone, after 11 and before 12: the point itself was not looked at";
+pub const LOOKED_AT: &str = "looked at in a live call alone, after 11 and before 12: the point itself was \
+                             not looked at; of a placing after 17 and before 4";
 
 pub fn wrong(degree: Option<usize>, number: u32) -> String {
     let limit = match number {

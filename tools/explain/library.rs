@@ -3,7 +3,7 @@
 
 use crate::live;
 use crate::torskavel::{
-    self, LivePointAnswer, MAX_ENTRIES, MAX_PLACES, NEVER_MEASURED, PointAnswer, Unit, UnitAnswer,
+    self, LivePointAnswer, MAX_ENTRIES, MAX_PLACES, NEVER_MEASURED, Placing, PointAnswer, Unit, UnitAnswer,
 };
 
 #[derive(Clone, Copy, PartialEq, Eq)]
@@ -123,15 +123,7 @@ pub struct Figure {
     pub denominator: i128,
 }
 
-pub fn answer(
-    unit: Unit,
-    net: &Net,
-    block: &Block,
-    point: [u32; 3],
-    divisor: u32,
-) -> Result<Figure, Refusal> {
-    let answer =
-        torskavel::answer(unit, &net.numbers, &block.corrections, &block.uncertainties, point, divisor);
+fn figure(answer: PointAnswer) -> Result<Figure, Refusal> {
     let PointAnswer { number, place, numerator, uncertainty, denominator } = answer;
     if number != 0 {
         return Err(Refusal { number, place });
@@ -143,6 +135,27 @@ pub fn answer(
     })
 }
 
+pub fn answer(
+    unit: Unit,
+    net: &Net,
+    block: &Block,
+    point: [u32; 3],
+    divisor: u32,
+) -> Result<Figure, Refusal> {
+    let Block { corrections, uncertainties, .. } = block;
+    figure(torskavel::answer(unit, &net.numbers, corrections, uncertainties, point, divisor))
+}
+
+pub fn value(unit: Unit, net: &Net, block: &Block, placing: Placing) -> Result<Figure, Refusal> {
+    let Block { corrections, uncertainties, .. } = block;
+    figure(torskavel::value(unit, &net.numbers, corrections, uncertainties, placing))
+}
+
+fn floats(answer: LivePointAnswer) -> live::Answer {
+    let LivePointAnswer { number, place, numerator, uncertainty } = answer;
+    if number != 0 { Err(Refusal { number, place }) } else { Ok([numerator, uncertainty]) }
+}
+
 pub fn live_answer(
     unit: Unit,
     net: &Net,
@@ -151,16 +164,17 @@ pub fn live_answer(
     divisor: u32,
     with_uncertainty: bool,
 ) -> live::Answer {
-    let Block { corrections, uncertainties, .. } = block;
-    let answer = torskavel::live_answer(
-        unit,
-        &net.numbers,
-        corrections,
-        uncertainties,
-        point,
-        divisor,
-        with_uncertainty,
-    );
-    let LivePointAnswer { number, place, numerator, uncertainty } = answer;
-    if number != 0 { Err(Refusal { number, place }) } else { Ok([numerator, uncertainty]) }
+    let Block { corrections: c, uncertainties: u, .. } = block;
+    floats(torskavel::live_answer(unit, &net.numbers, c, u, point, divisor, with_uncertainty))
+}
+
+pub fn live_value(
+    unit: Unit,
+    net: &Net,
+    block: &Block,
+    placing: Placing,
+    with_uncertainty: bool,
+) -> live::Answer {
+    let Block { corrections: c, uncertainties: u, .. } = block;
+    floats(torskavel::live_value(unit, &net.numbers, c, u, placing, with_uncertainty))
 }

@@ -1,11 +1,12 @@
-//! The live call at the point that was asked: it must give the exact call's N and U as floats, or meet 15.
+//! The live call at the point or the placing that was asked: it must give the exact call's N and U as floats,
+//! or meet 15.
 
 use crate::divisors;
-use crate::library::{self, Block, Figure, Net, Refusal};
+use crate::library::{Figure, Net, Refusal};
 use crate::parts::Part;
 use crate::placing::Placing;
 use crate::sums::denominator;
-use crate::torskavel::{MAX_LIVE_DENOMINATOR, Unit, refused};
+use crate::torskavel::{MAX_LIVE_DENOMINATOR, refused};
 use crate::walk::{Outcome, Walk};
 
 /// N and U, or the refusal.
@@ -26,10 +27,14 @@ fn same(a: &Answer, b: &Answer) -> bool {
     }
 }
 
-/// The exact call's answer as a live call has it. 15 is looked at after 11 and before 12.
+/// The exact call's answer as a live call has it. 15 is looked at after 11 and before 12, or after 17.
 fn right(exact: &Result<Figure, Refusal>, degree: usize, divisor: u32) -> Answer {
     match exact {
-        Err(refusal) if matches!(refusal.number, refused::DIVISOR | refused::DENOMINATOR) => Err(*refusal),
+        Err(refusal)
+            if matches!(refusal.number, refused::DIVISOR | refused::DENOMINATOR | refused::PLACING) =>
+        {
+            Err(*refusal)
+        }
         _ if denominator(degree, divisor) > MAX_LIVE_DENOMINATOR.into() => {
             Err(Refusal { number: refused::LIVE_DENOMINATOR, place: 0 })
         }
@@ -39,18 +44,15 @@ fn right(exact: &Result<Figure, Refusal>, degree: usize, divisor: u32) -> Answer
 }
 
 impl Live {
-    /// For a point that passes every check on net and block.
+    /// For a point or a placing that passes every check on net and block; the live call takes the flag.
     pub fn of(
-        unit: Unit,
-        net: &Net,
-        block: &Block,
-        point: [u32; 3],
-        divisor: u32,
         exact: &Result<Figure, Refusal>,
+        net: &Net,
+        divisor: u32,
+        live: impl Fn(bool) -> Answer,
     ) -> Live {
         let right = right(exact, net.degree(), divisor);
-        let given = [true, false].map(|with| library::live_answer(unit, net, block, point, divisor, with));
-        Live { given, right: [right, right.map(|[numerator, _]| [numerator, 0.0])] }
+        Live { given: [true, false].map(live), right: [right, right.map(|[numerator, _]| [numerator, 0.0])] }
     }
 
     pub fn agrees(&self) -> bool {

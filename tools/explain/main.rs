@@ -8,9 +8,11 @@ mod torskavel;
 mod cell_picture;
 mod decimal;
 mod divisors;
+mod handed;
 mod layers_picture;
 mod library;
 mod live;
+mod outside;
 mod page;
 mod parts;
 mod placing;
@@ -23,6 +25,7 @@ mod svg;
 mod tables;
 mod text;
 mod uncertain_gaps;
+mod valuing;
 mod walk;
 
 use request::{Asked, Request};
@@ -93,6 +96,10 @@ fn explain(request: &Request) -> Result<End, String> {
     }
     let differs = [
         (!walk.as_built, "the factory's net is not the one that the order 132 builds"),
+        (
+            walk.valued.is_some_and(|valued| !valued.agrees()),
+            "the valuing call does not agree with the point call",
+        ),
         (matches!(walk.outcome, Outcome::Differs(_)), "the sums do not come to the library's answer"),
         (walk.live.is_some_and(|live| !live.agrees()), "the live call does not agree with the exact call"),
     ];

@@ -1,13 +1,11 @@
 //! Refusals in words: what is wrong, whom it concerns, and what to do.
 
-use crate::divisors;
 use crate::library::{Net, Refusal, place_of};
 use crate::parts::{Part, bracketed, words};
-use crate::placing::Placing;
 use crate::request::Question;
 use crate::torskavel::{self, refused};
-use crate::uncertain_gaps;
 use crate::walk::{Outcome, Walk};
+use crate::{divisors, outside, uncertain_gaps, valuing};
 
 const FITTER: &str = "the fitter";
 const SURVEYOR: &str = "the surveyor";
@@ -24,7 +22,7 @@ fn words_of(wrong: impl Into<String>, concerns: &'static str, to_do: impl Into<S
 }
 
 pub fn is_one(number: u32) -> bool {
-    matches!(number, refused::ORDER_LENGTH..=refused::UNCERTAIN_GAP | refused::NO_NET..=refused::SHARES)
+    matches!(number, refused::ORDER_LENGTH..=refused::PLACING | refused::NO_NET..=refused::SHARES)
 }
 
 /// An index of the table as its entry; a unit with another table may have named one that is not there.
@@ -84,10 +82,8 @@ fn of_net(walk: &Walk, number: u32, place: usize) -> Words {
         refused::NET_DIFFERS => words_of(
             format!("the net differs from the defined one, first at {}", net_place(walk, place)),
             FITTER,
-            source.either(
-                "have the factory's net copied again",
-                "get the net again, or build it by its order",
-            ),
+            source
+                .either("have the factory's net copied again", "get the net again, or build it by its order"),
         ),
         refused::NO_NET => words_of(
             "the unit has no net",
@@ -146,33 +142,6 @@ fn of_divisor(walk: &Walk, number: u32) -> Words {
     words_of(divisors::wrong(degree, number), FIRMWARE, divisors::to_do(degree, number))
 }
 
-/// What keeps a point outside, axis by axis; without a point, what is inside.
-fn outside(walk: &Walk, placing: Option<&Placing>) -> Vec<String> {
-    let (Ok(net), Ok(block)) = (&walk.net, &walk.block) else { return Vec::new() };
-    let extents = net.extents();
-    let on_axis = |b: usize| {
-        let (extent, size, axis) = (extents[b], block.sizes[b], b + 1);
-        if size < extent {
-            let never = "no point is inside with this net and this table, the far face neither";
-            return Some(format!("axis {axis}: {size} entries are fewer than the extent {extent}: {never}"));
-        }
-        let first = extent - 1;
-        let ends = format!("both included: cells {first} to {}, the last with the far face", size - 1);
-        let Some(Placing { coordinates, divisor, cell, .. }) = placing else {
-            return Some(format!("axis {axis}: inside are the positions {first} to {size}, {ends}"));
-        };
-        let wrong = match cell[b] {
-            cell if cell < first => "too low",
-            cell if cell >= size => "past the far face",
-            _ => return None,
-        };
-        let [low, high] = [first, size].map(|position| position * *divisor as usize);
-        let wrong = format!("{} over {divisor} is {wrong}", coordinates[b]);
-        Some(format!("axis {axis}: {wrong}; inside are {low} to {high}, {ends}"))
-    };
-    (0..3).filter_map(on_axis).collect()
-}
-
 fn of_point(walk: &Walk, number: u32, place: usize) -> Words {
     match number {
         refused::OUTSIDE => {
@@ -197,6 +166,7 @@ fn of_point(walk: &Walk, number: u32, place: usize) -> Words {
                 "have that entry measured; every entry of the window is wanted, also one without a share";
             words_of(wrong, SURVEYOR, to_do)
         }
+        refused::PLACING => words_of(valuing::WRONG, FIRMWARE, valuing::to_do(walk)),
         _ => of_divisor(walk, number),
     }
 }
@@ -206,15 +176,18 @@ fn tell(walk: &Walk, Refusal { number, place }: Refusal, all: bool, parts: &mut 
         refused::ORDER_LENGTH | refused::ORDER_BYTE => of_order(walk, number, place),
         refused::MULTIPLICITIES | refused::NET_LENGTH | refused::NET_DIFFERS => of_net(walk, number, place),
         refused::NO_NET | refused::SHARES => of_net(walk, number, place),
-        refused::DIVISOR..=refused::UNMEASURED | refused::LIVE_DENOMINATOR => of_point(walk, number, place),
+        refused::DIVISOR..=refused::UNMEASURED | refused::LIVE_DENOMINATOR | refused::PLACING => {
+            of_point(walk, number, place)
+        }
         _ => of_file(walk, number, place),
     };
     let mut line = |text: String| parts.push(Part::Line(text));
     line(format!("{number}: {wrong}"));
     match number {
-        refused::OUTSIDE => outside(walk, walk.placing.as_ref()).into_iter().for_each(&mut line),
+        refused::OUTSIDE => outside::told(walk, walk.placing.as_ref()).into_iter().for_each(&mut line),
         refused::LIVE_DENOMINATOR => line(divisors::LOOKED_AT.to_string()),
         refused::UNCERTAIN_GAP => uncertain_gaps::beside(walk, place, all).into_iter().for_each(&mut line),
+        refused::PLACING => valuing::beside(walk).into_iter().for_each(&mut line),
         _ => {}
     }
     line(format!("concerns {concerns}"));

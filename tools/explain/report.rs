@@ -1,6 +1,7 @@
 //! The walk as parts to be written.
 
 use crate::decimal::{decimal, rounded};
+use crate::handed::Handed;
 use crate::library::{Block, Figure, Net};
 use crate::parts::{Part, bracketed, listed, words};
 use crate::placing::{Placing, Window, plain_reading};
@@ -8,7 +9,7 @@ use crate::request::Question;
 use crate::source::Source;
 use crate::sums::{Counted, LocalPlace, Sums, factorial};
 use crate::walk::{Outcome, Walk};
-use crate::{cell_picture, layers_picture, live, refusals, tables};
+use crate::{cell_picture, layers_picture, live, refusals, tables, valuing};
 
 /// The decimals of a position and of a figure in tenths of a micrometre.
 const DECIMALS: u32 = 3;
@@ -24,6 +25,9 @@ fn line(parts: &mut Vec<Part>, text: String) {
 fn title(walk: &Walk) -> String {
     let asked = match walk.question {
         Question::Point { coordinates, divisor } => format!("point {} over {divisor}", words(&coordinates)),
+        Question::Placing(Handed { cell, axes, weights }) => {
+            format!("placing {} {} {}", words(&cell), words(&axes), words(&weights))
+        }
         Question::Refusal { number, place } => format!("refusal {number}, place {place}"),
     };
     format!("{}, {}, {asked}", walk.file, walk.source.title())
@@ -231,6 +235,7 @@ pub fn parts(walk: &Walk, all: bool) -> Vec<Part> {
         shape(net, &mut parts);
     }
     if let (Ok(net), Ok(block)) = (&walk.net, &walk.block) {
+        valuing::told(walk, &mut parts);
         if let Some(placing) = &walk.placing {
             heading(&mut parts, "The point");
             point(net, block, placing, walk.window, &mut parts);

@@ -1,13 +1,17 @@
 //! The command line.
 
+use crate::handed::Handed;
 use crate::parts::shown;
 use crate::source::Source;
 use std::ffi::{OsStr, OsString};
+use std::fmt::Display;
 use std::os::unix::ffi::OsStrExt;
 use std::path::PathBuf;
+use std::str::FromStr;
 
 pub const USAGE: &str = "\
 usage: explain FILE ORDER X Y Z D [--all] [--page OUT.html]
+       explain FILE ORDER placing K1 K2 K3 P R S L0 L1 L2 L3 [--all] [--page OUT.html]
        explain FILE ORDER --refused NUMBER PLACE [--all] [--page OUT.html]
 
 Tells how the unit comes to its figure at the point X/D, Y/D, Z/D, with the table of a field file and a net.
@@ -16,20 +20,26 @@ copied ready-made. For any other it is the order of repeats that builds the net,
 '' for the order without a repeat; 132 builds the numbers that factory copies. X, Y, Z and D are whole numbers
 from 0 to 4294967295.
 
+With the word placing it tells the same for a placing that was valued, or why it was refused by 17: the cell
+K1 K2 K3, the axis order P R S and the weights L0 L1 L2 L3, as they were handed to the unit. P, R and S are
+whole numbers from 0 to 255, the others as above.
+
   --all             also lists the local places whose weights multiply to 0, the entries of the window without
                     a share, and every entry never measured or refused by 16
   --page OUT.html   writes a page with pictures, to look at, print or send, and not the text
   --refused NUMBER PLACE
                     tells what a refusal means that a unit with this file and this net gave
 
-Ends with 0 where the point was answered or the refusal told, 1 where the file, the order or the point is
-refused, 2 where the command line is wrong or something cannot be read or written, 3 where the sums do not
-come to the library's answer, its live call does not agree with it, or 132 does not build the factory's net.
+Ends with 0 where the point was answered or the refusal told, 1 where the file, the order, the point or the
+placing is refused, 2 where the command line is wrong or something cannot be read or written, 3 where the sums
+do not come to the library's answer, its live call does not agree with it, its valuing call not with its point
+call, or 132 does not build the factory's net.
 ";
 
 #[derive(Clone, Copy)]
 pub enum Question {
     Point { coordinates: [u32; 3], divisor: u32 },
+    Placing(Handed),
     Refusal { number: u32, place: usize },
 }
 
@@ -79,12 +89,14 @@ fn words(mut arguments: impl Iterator<Item = OsString>) -> Result<Words, String>
     Ok(words)
 }
 
-fn number(name: &str, word: &OsStr) -> Result<u32, String> {
+fn number<T: FromStr + Display>(name: &str, word: &OsStr, largest: T) -> Result<T, String> {
     let number = word.to_str().and_then(|word| word.parse().ok());
-    number.ok_or_else(|| {
-        let hint = "a position such as 3.4 is written as 34 with the divisor 10";
-        format!("{name} is '{}', which is no whole number from 0 to {}; {hint}", shown(word), u32::MAX)
-    })
+    number.ok_or_else(|| format!("{name} is '{}', which is no whole number from 0 to {largest}", shown(word)))
+}
+
+fn coordinate(name: &str, word: &OsStr) -> Result<u32, String> {
+    let hint = "a position such as 3.4 is written as 34 with the divisor 10";
+    number(name, word, u32::MAX).map_err(|message| format!("{message}; {hint}"))
 }
 
 fn point(words: &[OsString]) -> Result<Question, String> {
@@ -94,8 +106,25 @@ fn point(words: &[OsString]) -> Result<Question, String> {
             words.len() + 2
         ));
     };
-    let coordinates = [number("X", x)?, number("Y", y)?, number("Z", z)?];
-    Ok(Question::Point { coordinates, divisor: number("D", divisor)? })
+    let coordinates = [coordinate("X", x)?, coordinate("Y", y)?, coordinate("Z", z)?];
+    Ok(Question::Point { coordinates, divisor: coordinate("D", divisor)? })
+}
+
+fn placing(words: &[OsString]) -> Result<Question, String> {
+    let [k1, k2, k3, p, r, s, l0, l1, l2, l3] = words else {
+        return Err(format!(
+            "after the word placing ten numbers are wanted, K1 K2 K3 P R S L0 L1 L2 L3, and not {}; explain \
+             --help",
+            words.len()
+        ));
+    };
+    let of_32_bits = |name, word| number(name, word, u32::MAX);
+    let byte = |name, word| number(name, word, u8::MAX);
+    Ok(Question::Placing(Handed {
+        cell: [of_32_bits("K1", k1)?, of_32_bits("K2", k2)?, of_32_bits("K3", k3)?],
+        axes: [byte("P", p)?, byte("R", r)?, byte("S", s)?],
+        weights: [of_32_bits("L0", l0)?, of_32_bits("L1", l1)?, of_32_bits("L2", l2)?, of_32_bits("L3", l3)?],
+    }))
 }
 
 fn refusal((number, place): (OsString, OsString), rest: &[OsString]) -> Result<Question, String> {
@@ -103,7 +132,7 @@ fn refusal((number, place): (OsString, OsString), rest: &[OsString]) -> Result<Q
         return Err("with --refused no point is wanted; explain --help".to_string());
     }
     let number = number.to_str().and_then(|word| word.parse().ok()).filter(|&n| crate::refusals::is_one(n));
-    let number = number.ok_or("--refused wants the number of a refusal: 1 to 16, 21, 22 or 23")?;
+    let number = number.ok_or("--refused wants the number of a refusal: 1 to 17, 21, 22 or 23")?;
     let place = place.to_str().and_then(|word| word.parse().ok());
     let place =
         place.ok_or("--refused wants the place as a whole number; it is 0 where the unit names none")?;
@@ -120,7 +149,10 @@ pub fn read(arguments: impl Iterator<Item = OsString>) -> Result<Asked, String> 
     };
     let question = match words.refused {
         Some(given) => refusal(given, rest)?,
-        None => point(rest)?,
+        None => match rest {
+            [word, numbers @ ..] if word == "placing" => placing(numbers)?,
+            _ => point(rest)?,
+        },
     };
     let (file, source) = (file.into(), Source::read(order)?);
     Ok(Asked::Explain(Request { file, source, question, all: words.all, page: words.page }))

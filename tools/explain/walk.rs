@@ -9,6 +9,7 @@ use crate::source::Source;
 use crate::sums::Sums;
 use crate::torskavel::{self, MAX_FILE, Unit};
 use crate::uncertain_gaps;
+use crate::valuing::{IMPOSSIBLE, Valued};
 
 pub struct Walk<'a> {
     /// The file's name, without its folders.
@@ -25,12 +26,14 @@ pub struct Walk<'a> {
     pub as_built: bool,
     pub block: Result<Block, Refusal>,
     pub question: Question,
-    /// Where there is a divisor, a net and a table.
+    /// Where there is a divisor, a net and a table; of a placing that was handed in, where it is possible.
     pub placing: Option<Placing>,
     pub window: Option<Window>,
     pub sums: Option<Sums>,
-    /// Where a point was asked.
+    /// Where a point or a placing was asked.
     pub live: Option<Live>,
+    /// Where a placing was asked.
+    pub valued: Option<Valued>,
     pub outcome: Outcome,
 }
 
@@ -46,6 +49,38 @@ pub enum Outcome {
 fn head(bytes: &[u8]) -> Option<[usize; 3]> {
     let bytes = bytes.get(..6)?;
     Some([0, 2, 4].map(|at| u16::from_le_bytes([bytes[at], bytes[at + 1]]).into()))
+}
+
+/// What the library gives for the point or the placing that was asked.
+struct Given {
+    answer: Result<Figure, Refusal>,
+    live: Live,
+    /// Coordinates and divisor; none for a placing that stands for no point.
+    point: Option<([u32; 3], u32)>,
+    valued: Option<Valued>,
+}
+
+impl Given {
+    fn of(unit: Unit, net: &Net, block: &Block, question: Question) -> Option<Given> {
+        let at = |(point, divisor)| library::answer(unit, net, block, point, divisor);
+        match question {
+            Question::Refusal { .. } => None,
+            Question::Point { coordinates, divisor } => {
+                let answer = at((coordinates, divisor));
+                let live = |with| library::live_answer(unit, net, block, coordinates, divisor, with);
+                let live = Live::of(&answer, net, divisor, live);
+                Some(Given { answer, live, point: Some((coordinates, divisor)), valued: None })
+            }
+            Question::Placing(handed) => {
+                let answer = library::value(unit, net, block, handed.record());
+                let point = handed.point(net, block);
+                let valued = Valued { given: answer, right: point.map_or(Err(IMPOSSIBLE), at) };
+                let live = |with| library::live_value(unit, net, block, handed.record(), with);
+                let live = Live::of(&answer, net, point.map_or(0, |(_, divisor)| divisor), live);
+                Some(Given { answer, live, point, valued: Some(valued) })
+            }
+        }
+    }
 }
 
 impl<'a> Walk<'a> {
@@ -69,6 +104,7 @@ impl<'a> Walk<'a> {
             window: None,
             sums: None,
             live: None,
+            valued: None,
             outcome: Outcome::Told,
         };
         walk.ask(unit);
@@ -84,11 +120,12 @@ impl<'a> Walk<'a> {
                 return;
             }
         };
-        let Question::Point { coordinates, divisor } = self.question else { return };
-        let answer = library::answer(unit, net, block, coordinates, divisor);
-        self.live = Some(Live::of(unit, net, block, coordinates, divisor, &answer));
+        let Some(given) = Given::of(unit, net, block, self.question) else { return };
+        let Given { answer, live, point, valued } = given;
+        self.valued = valued;
+        self.live = Some(live);
         let refused = answer.as_ref().err().map_or(0, |refusal| refusal.number);
-        self.placing = Placing::of(coordinates, divisor, block.sizes);
+        self.placing = point.and_then(|(point, divisor)| Placing::of(point, divisor, block.sizes));
         // 10 and 11 come before the window is looked at, and keep the powers of the divisor small
         if refused != torskavel::refused::DIVISOR && refused != torskavel::refused::DENOMINATOR {
             self.window = self.placing.as_ref().and_then(|placing| placing.window(net, block));

@@ -21,7 +21,8 @@ pub use build::{build, build_tuned};
 pub use factory::{Factory, factory, factory_tuned};
 pub use inspect::{defined_order, inspect, inspect_tuned};
 pub use load::{Load, load, load_tuned};
-pub use point::{Call, Fraction, LIVE_TUNED, TUNED, answer, live_answer};
+pub use point::{Answer, Call, Floats, Fraction, LiveAnswer, SHAPES, Valuing};
+pub use point::{answer, live_answer, live_tuned, place, tuned};
 
 use crate::torskavel::{Unit, UnitAnswer};
 

@@ -18,11 +18,14 @@ use Rattle.unit.specs.declared.Refusal.{Refusal}
 use Rattle.unit.specs.declared.Unit.{Unit}
 use Rattle.placing.proofs.Placed.{Lent, PointAccepted}
 use Rattle.placing.proofs.Ranks.{placing-axes}
+use Rattle.placing.specs.Inner.Ranking.{Axes}
 use Rattle.placing.specs.Place.{lentChecks, pointChecks}
-use Rattle.placing.specs.Placing.{placing, placingCell, sizes}
+use Rattle.placing.specs.Placing.{inside, placing, placingCell, sizes}
+use Rattle.placing.specs.Possible.{placedChecks}
 use Rattle.placing.specs.declared.Placing.{Placing}
 use Rattle.placing.specs.declared.PlacingAnswer.the-variants.{Placed, Refused}
-use Rattle.blending.specs.Blend.{blendAnswer, blendChecks, blendedCorrectionAt, blendedCorrections}
+use Rattle.blending.specs.Blend.{blendAnswer, blendChecks, blendPlacedChecks, blendedCorrectionAt}
+use Rattle.blending.specs.Blend.{blendedCorrections}
 use Rattle.blending.specs.Blend.{blendedUncertaintyAt, blendedUncertainties, correctionAt}
 use Rattle.blending.specs.Blend.{Sized, numberAt, windowChecks, writtenIf}
 use Rattle.blending.specs.Blending.{addsUp}
@@ -31,19 +34,25 @@ use Rattle.blending.specs.Inner.Fit.{Fit}
 use Rattle.blending.specs.LocalPlaces.{localPlaces}
 
 module _ (u : Unit) (netLength correctionsLength uncertaintiesLength : ℕ) where
-  -- a placing that no check has refused can be blended
-  pub fit : (x y z D : ℕ) → Lent u netLength correctionsLength uncertaintiesLength → PointAccepted u x y z D
-      → Fit u netLength correctionsLength uncertaintiesLength (placing u x y z D)
-  unfolding placing
-  fit x y z D l p = record {
+  -- a placing in a cell that is inside can be blended
+  pub fit-at : (q : Placing) → Lent u netLength correctionsLength uncertaintiesLength
+      → inside (netOf u) (sizes u) (placingCell q) ≡ true → Axes (q .p) (q .r) (q .s)
+      → Fit u netLength correctionsLength uncertaintiesLength q
+  fit-at q l i a = record {
     net-held = l .unit .net-held;
     block-held = l .unit .block-held;
     net-long = l .net-long;
     corrections-long = l .corrections-long;
     uncertainties-long = l .uncertainties-long;
-    point-inside = p .point-inside;
-    axes = placing-axes u x y z D;
+    point-inside = i;
+    axes = a;
   }
+
+  -- so can that of a point that no check has refused
+  pub fit : (x y z D : ℕ) → Lent u netLength correctionsLength uncertaintiesLength → PointAccepted u x y z D
+      → Fit u netLength correctionsLength uncertaintiesLength (placing u x y z D)
+  unfolding placing
+  fit x y z D l p = fit-at (placing u x y z D) l (p .point-inside) (placing-axes u x y z D)
 
 -- ---- the checks of the window
 
@@ -132,3 +141,22 @@ module _ (u : Unit) (net : List ℕ) (corrections : List ℤ) (uncertainties : L
       ≡ blendedUncertainties u net corrections uncertainties x y z D spreads)))
   unfolding blendAnswer blendedCorrections blendedUncertainties
   blend-made shifts spreads e = (rw e refl, (rw e refl, rw e refl))
+
+-- ---- at a placing that is handed in
+
+module _ (u : Unit) (net : List ℕ) (corrections : List ℤ) (uncertainties : List ℕ) (q : Placing) where
+  abbrev placed-checks : Checked
+  placed-checks = placedChecks u q (length net) (length corrections) (length uncertainties)
+
+  -- a refusal for the placing or for what is lent comes first
+  pub placed-stops : {r : Refusal} → placed-checks ≡ Stopped r
+      → Stopped r ≡ blendPlacedChecks u net corrections uncertainties q
+  unfolding blendPlacedChecks
+  placed-stops e = rw e refl
+
+  -- else the window decides
+  pub placed-goes-on : placed-checks ≡ Passed
+      → windowChecks (netOf u) (sizes u) (numberAt net) (correctionAt (sizes u) corrections) q
+      ≡ blendPlacedChecks u net corrections uncertainties q
+  unfolding blendPlacedChecks
+  placed-goes-on e = rw e refl

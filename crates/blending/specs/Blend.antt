@@ -1,5 +1,5 @@
--- What a blending call answers, by cases in the order of its checks (21, 22, 4, 9, 10, 11, 12, 13, 23), and
--- what the arrays that it is lent hold at its exit: Section 10.7.
+-- What a blending call answers, by cases in the order of its checks (21, 22, 4, 9, 10, 11, 12, 13, 23; at a
+-- placing 21, 22, 17, 4, 9, 13, 23), and what the arrays that it is lent hold at its exit: Section 10.7.
 use mathlib.Core.Bool.{not}
 use mathlib.Core.List.{List}
 use Prim.Native.Nat.{_*_, _-_, _<_, _≤_, ℕ}
@@ -17,6 +17,7 @@ use Rattle.unit.specs.declared.Checked.the-variants.{Passed}
 use Rattle.unit.specs.declared.Unit.{Unit}
 use Rattle.placing.specs.Place.{lentChecks, pointChecks}
 use Rattle.placing.specs.Placing.{placing, placingCell, sizes}
+use Rattle.placing.specs.Possible.{placedChecks}
 use Rattle.placing.specs.declared.Placing.{Placing}
 use Rattle.placing.specs.declared.PlacingAnswer.{PlacingAnswer}
 use Rattle.placing.specs.declared.PlacingAnswer.the-variants.{Placed, Refused}
@@ -56,6 +57,12 @@ blendChecks u net corrections uncertainties x y z D =
     (andThen (pointChecks u x y z D)
     (windowChecks (netOf u) (sizes u) (numberAt net) (correctionAt (sizes u) corrections)
     (placing u x y z D)))
+
+-- Section 10.7: all checks of a call that is handed a placing (21, 22, 17, 4, 9, 13, 23)
+unfoldable pub blendPlacedChecks : Unit → List ℕ → List ℤ → List ℕ → Placing → Checked
+blendPlacedChecks u net corrections uncertainties q =
+    andThen (placedChecks u q (length net) (length corrections) (length uncertainties))
+    (windowChecks (netOf u) (sizes u) (numberAt net) (correctionAt (sizes u) corrections) q)
 
 -- Section 10.7: the answer
 unfoldable pub blendAnswer : Unit → List ℕ → List ℤ → List ℕ → ℕ → ℕ → ℕ → ℕ → PlacingAnswer

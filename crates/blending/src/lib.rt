@@ -1,5 +1,5 @@
-// The blended numbers of a point: from unit, net, block and point the blended correction and uncertainty
-// at every local place of the point's tetrahedron, or the refusal that applies. Section 10.
+// The blended numbers of a point: from unit, net, block and point or placing the blended correction and
+// uncertainty at every local place of the point's tetrahedron, or the refusal that applies. Section 10.
 ghost use mathlib.Core.Path.{_≡_};
 ghost use Prim.Native.Nat.{_≤_};
 ghost use lib.Dec.{eqb};
@@ -13,11 +13,12 @@ ghost use Rattle.placing.specs.declared.Placing.{Placing};
 ghost use Rattle.placing.specs.declared.PlacingAnswer.the-variants.{Placed};
 ghost use Rattle.blending.specs.Blend.{blendAnswer, blendedCorrections, blendedUncertainties};
 ghost use Rattle.blending.specs.Blend.{blendedCorrectionAt, blendedUncertaintyAt, numberAt, signedAt};
-ghost use Rattle.blending.specs.Blend.{Sized, correctionAt, windowChecks, writtenIf};
+ghost use Rattle.blending.specs.Blend.{Sized, blendPlacedChecks, correctionAt, windowChecks, writtenIf};
 ghost use Rattle.blending.specs.Inner.Fit.{Fit};
 use crate::window::Gap;
 use placing::Placing;
 use placing::PlacingAnswer;
+use placing::possible;
 use unit::Checked;
 use unit::Unit;
 
@@ -157,4 +158,33 @@ pub fn blend(
         return PlacingAnswer::Refused(refusal);
     }
     placed
+}
+
+// The blended numbers at a placing that is handed in, in the two arrays; or the first refusal that applies of
+// 21, 22, 17, 4, 9, 13, 23, likewise.
+pub fn blend_placed(
+    unit: Unit,
+    net: &[u32],
+    corrections: &[i16],
+    uncertainties: &[u16],
+    q: Placing,
+    shifts: &mut [i64; 220],
+    spreads: &mut [u64; 220],
+) -> Checked
+    ensures { λ r. ⌜ r ≡ blendPlacedChecks unit (now (net .entry)) (now (corrections .entry))
+        (now (uncertainties .entry)) q ⌝ }
+    ensures { λ r. ⌜ now (shifts .exit)
+        ≡ writtenIf r (blendedCorrectionAt unit (now (net .entry)) (now (corrections .entry)) q)
+        unit (now (shifts .entry)) ⌝ }
+    ensures { λ r. ⌜ now (spreads .exit)
+        ≡ writtenIf r (blendedUncertaintyAt unit (now (net .entry)) (now (uncertainties .entry)) q)
+        unit (now (spreads .entry)) ⌝ }
+    ensures { λ r. ⌜ (r ≡ Passed
+        → Sized unit (now (net .entry)) (now (corrections .entry)) (now (uncertainties .entry)) q) ⌝ }
+{
+    let placed = possible::check_placed(unit, q, net.len(), corrections.len(), uncertainties.len());
+    if let Checked::Stopped(refusal) = placed {
+        return Checked::Stopped(refusal);
+    }
+    blend_at(unit, net, corrections, uncertainties, q, shifts, spreads)
 }

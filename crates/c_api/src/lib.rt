@@ -9,13 +9,17 @@ ghost use Rattle.net.specs.Build.{buildAnswer, buildNet, buildWork};
 ghost use Rattle.inspection.specs.Inspect.{inspectAnswer};
 ghost use Rattle.factory.specs.Factory.{factoryAnswer, factoryNet};
 ghost use Rattle.field.specs.Load.{loadAnswer, loadCorrections, loadUncertainties};
-ghost use Rattle.point.specs.Answer.{pointAnswer};
-ghost use Rattle.live.specs.Answer.{liveAnswer};
-ghost use Rattle.flat.specs.Flat.{emptyFlat, unitOf, flatNet, flatBlock, flatPoint, flatLive, switchedOn};
+ghost use Rattle.placing.specs.Place.{placeAnswer};
+ghost use Rattle.point.specs.Answer.{pointAnswer, valuingAnswer};
+ghost use Rattle.live.specs.Answer.{liveAnswer, liveValuingAnswer};
+ghost use Rattle.flat.specs.Flat.{emptyFlat, unitOf, flatNet, flatBlock, flatPlacing, flatPoint, flatLive};
+ghost use Rattle.flat.specs.Flat.{switchedOn};
 use flat::FlatLiveAnswer;
+use flat::FlatPlacingAnswer;
 use flat::FlatPointAnswer;
 use flat::FlatUnit;
 use flat::FlatUnitAnswer;
+use placing::Placing;
 
 // The record that holds neither net nor block.
 #[no_mangle]
@@ -155,4 +159,52 @@ pub extern "C" fn torskavel_live_answer(
         divisor,
         on,
     ))
+}
+
+// `placing::place`.
+#[no_mangle]
+pub extern "C" fn torskavel_place(
+    unit: FlatUnit,
+    x: u32,
+    y: u32,
+    z: u32,
+    divisor: u32,
+) -> FlatPlacingAnswer
+    ensures { λ r. ⌜ r ≡ flatPlacing (placeAnswer (unitOf unit) x y z divisor) ⌝ }
+{
+    flat::flat_placing(placing::place(flat::unit_of(unit), x, y, z, divisor))
+}
+
+// `point::value`.
+#[no_mangle]
+pub extern "C" fn torskavel_value(
+    unit: FlatUnit,
+    net: &[u32],
+    corrections: &[i16],
+    uncertainties: &[u16],
+    q: Placing,
+) -> FlatPointAnswer
+    ensures { λ r. ⌜ r ≡ flatPoint (valuingAnswer (unitOf unit) (now (net .entry))
+        (now (corrections .entry)) (now (uncertainties .entry)) q) ⌝ }
+{
+    let handed = flat::unit_of(unit);
+    flat::flat_point(point::value(handed, net, corrections, uncertainties, q))
+}
+
+// `live::value`.
+#[no_mangle]
+pub extern "C" fn torskavel_live_value(
+    unit: FlatUnit,
+    net: &[u32],
+    corrections: &[i16],
+    uncertainties: &[u16],
+    q: Placing,
+    with_uncertainty: u8,
+) -> FlatLiveAnswer
+    ensures { λ r. ⌜ r ≡ flatLive (liveValuingAnswer (unitOf unit) (now (net .entry))
+        (now (corrections .entry)) (now (uncertainties .entry)) q (switchedOn «with_uncertainty»)) ⌝ }
+{
+    let handed = flat::unit_of(unit);
+    let on = flat::switched_on(with_uncertainty);
+    flat::flat_live(live::value(handed, net, corrections, uncertainties, q, on))
 }

@@ -27,8 +27,7 @@ use Rattle.unit.specs.declared.Unit.{Unit}
 use Rattle.placing.proofs.Ranks.{weights-add-up}
 use Rattle.placing.proofs.Placed.{lent, point-accepted}
 use Rattle.placing.specs.Place.{lentChecks, pointChecks, scale}
-use Rattle.placing.specs.Inner.Ranking.{weightSum}
-use Rattle.placing.specs.Placing.{placing, placingCell, sizes}
+use Rattle.placing.specs.Placing.{placing, placingCell, sizes, weightSum}
 use Rattle.placing.specs.declared.Placing.{Placing}
 use Rattle.blending.proofs.Answers.{fit}
 use Rattle.blending.proofs.LocalPlaces.{local-le}

@@ -16,15 +16,17 @@ use Rattle.field.specs.File.{correction, signed, uncertainty, word}
 use Rattle.field.specs.Load.{layoutChecks, loadChecks}
 use Rattle.placing.specs.Place.{divisorChecks, insideCheck, lentChecks, liveCheck, pointChecks, unitChecks}
 use Rattle.placing.specs.Placing.{inside, located, placing, rankAxes, withThird}
+use Rattle.placing.specs.Possible.{areAxes, divisorPossible, facesInLast, placedChecks, placingChecks}
+use Rattle.placing.specs.Possible.{possible, remainderOn, tiesInOrder}
 use Rattle.blending.specs.Blend.{windowChecks}
-use Rattle.point.specs.Answer.{pointAnswer, valueAnswer}
+use Rattle.point.specs.Answer.{pointAnswer, valueAnswer, valuingAnswer}
 use Rattle.blending.specs.Blending.{addsUp, allSimplex, blendedCorrection, blendedUncertainty, localPlace}
 use Rattle.blending.specs.Blending.{share, shareSum}
 use Rattle.blending.specs.Gaps.{firstGap, windowGap}
 use Rattle.point.specs.Bernstein.{shiftNumerator, uncertaintyNumerator}
 use Rattle.live.specs.Answer.{liveAnswer, liveChecks}
 use Rattle.claims.specs.Demands.{AllFigures}
-use Rattle.claims.specs.Figures.{AllHold, gapFigures, liveFigures, pointFigures}
+use Rattle.claims.specs.Figures.{AllHold, gapFigures, liveFigures, placingFigures, pointFigures}
 
 pub all-figures : AllFigures
 unfolding sumTo sumZ sumBox sumBoxZ factorial multinomial sumSimplex sumSimplexZ bernstein allTo first
@@ -33,10 +35,15 @@ unfolding sumTo sumZ sumBox sumBoxZ factorial multinomial sumSimplex sumSimplexZ
     shiftNumerator uncertaintyNumerator allSimplex addsUp windowGap firstGap unitChecks divisorChecks
     insideCheck pointChecks lentChecks windowChecks valueAnswer pointAnswer liveCheck liveChecks liveAnswer
     littleEndian bits encoding word signed correction uncertainty layoutChecks loadChecks ofInt ofBits
+    areAxes divisorPossible tiesInOrder remainderOn facesInLast possible placingChecks placedChecks
+    valuingAnswer
 all-figures = (refl, ((refl, refl, refl), (refl, (refl, (refl, (refl, (refl, (refl, points))))))))
   where
+    placings : AllHold placingFigures
+    placings = (refl, (refl, (refl, (refl, (refl, (refl, (refl, (refl, (refl, tt)))))))))
+
     lives : AllHold liveFigures
-    lives = (refl, (refl, ((refl, refl), (refl, (refl, (refl, (refl, (refl, tt))))))))
+    lives = (refl, (refl, ((refl, refl), (refl, (refl, (refl, (refl, (refl, placings))))))))
 
     gaps : AllHold gapFigures
     gaps = (refl, (refl, (refl, (refl, (refl, lives)))))

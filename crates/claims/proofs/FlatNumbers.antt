@@ -3,15 +3,18 @@ use Rattle.net.specs.Build.{buildAnswer}
 use Rattle.inspection.specs.Inspect.{inspectAnswer}
 use Rattle.factory.specs.Factory.{factoryAnswer}
 use Rattle.field.specs.Load.{loadAnswer}
-use Rattle.point.specs.Answer.{pointAnswer}
-use Rattle.live.specs.Answer.{liveAnswer}
-use Rattle.flat.proofs.Meaning.{block-number, live-number, net-number, point-number}
+use Rattle.placing.specs.Place.{placeAnswer}
+use Rattle.point.specs.Answer.{pointAnswer, valuingAnswer}
+use Rattle.live.specs.Answer.{liveAnswer, liveValuingAnswer}
+use Rattle.flat.proofs.Meaning.{block-number, live-number, net-number, placing-number, point-number}
 use Rattle.flat.specs.Flat.{switchedOn, unitOf}
 use Rattle.claims.proofs.Refusals.{not-zero}
 use Rattle.claims.specs.Demands.{FlatNumbers}
 use Rattle.claims.specs.Factory.{FlatFactoryNumbers}
 use Rattle.claims.specs.Live.{FlatLiveNumbers}
-use Rattle.claims.specs.Refusals.{by-build, by-factory, by-inspection, by-live, by-load, by-point}
+use Rattle.claims.specs.Placings.{FlatPlacedNumbers}
+use Rattle.claims.specs.Refusals.{by-build, by-factory, by-inspection, by-live, by-live-valuing}
+use Rattle.claims.specs.Refusals.{by-load, by-placing, by-point, by-valuing}
 
 pub flat-numbers : FlatNumbers
 flat-numbers u = (
@@ -38,3 +41,15 @@ pub flat-factory-numbers : FlatFactoryNumbers
 flat-factory-numbers u netLength =
     net-number u (factoryAnswer (unitOf u) netLength)
     (λ r h. not-zero r (by-factory (unitOf u) netLength h))
+
+pub flat-placed-numbers : FlatPlacedNumbers
+flat-placed-numbers u = (
+  λ x y z D.
+      placing-number (placeAnswer (unitOf u) x y z D) (λ r h. not-zero r (by-placing (unitOf u) x y z D h)),
+  λ net corrections uncertainties q.
+      point-number (valuingAnswer (unitOf u) net corrections uncertainties q)
+      (λ r h. not-zero r (by-valuing (unitOf u) net corrections uncertainties q h)),
+  λ net corrections uncertainties q flag.
+      live-number (liveValuingAnswer (unitOf u) net corrections uncertainties q (switchedOn flag))
+      (λ r h. not-zero r (by-live-valuing (unitOf u) net corrections uncertainties q (switchedOn flag) h)),
+)

@@ -12,6 +12,7 @@ pub mod Fraction
 pub mod ConstantBlock
 pub mod Admitted
 pub mod Figures
+pub mod CheckNumbers
 pub mod Refusals
 pub mod FlatNumbers
 pub mod NumeratorSizes
@@ -21,3 +22,6 @@ pub mod Unchanged
 pub mod Loads
 pub mod GapsUncounted
 pub mod Factory
+pub mod Seventeen
+pub mod TwoCalls
+pub mod LiveTwoCalls

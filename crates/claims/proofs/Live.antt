@@ -31,13 +31,13 @@ use Rattle.claims.specs.Live.{LiveAnswered, LiveFlag, LiveRefused, Meets
 -- ---- answers made of checks
 
 -- a refused point was stopped by a check
-point-stopped : (k : Checked) (f : Fraction) {r : Refusal}
+pub point-stopped : (k : Checked) (f : Fraction) {r : Refusal}
     → passedOr k (points.Value f) points.Refused ≡ points.Refused r → k ≡ Stopped r
 point-stopped Passed f h = let z : _≡_ {A = ℕ} 0 1 = cc in absurd (omega arith)
 point-stopped (Stopped s) f h = cc
 
 -- one with a value passed them all
-point-valued : (k : Checked) (f : Fraction) {g : Fraction}
+pub point-valued : (k : Checked) (f : Fraction) {g : Fraction}
     → passedOr k (points.Value f) points.Refused ≡ points.Value g → (k ≡ Passed) × (g ≡ f)
 point-valued Passed f h = (refl, cc)
 point-valued (Stopped s) f h = let z : _≡_ {A = ℕ} 0 1 = cc in absurd (omega arith)
@@ -50,7 +50,7 @@ live-stopped Passed false N U h = let z : _≡_ {A = ℕ} 0 1 = cc in absurd (om
 live-stopped (Stopped s) flag N U h = cc
 
 -- what 15 stops has m!×D^m above 2^37
-above-limit : (v : Multiplicities) (D : ℕ) {r : Refusal} → liveCheck v D ≡ Stopped r
+pub above-limit : (v : Multiplicities) (D : ℕ) {r : Refusal} → liveCheck v D ≡ Stopped r
     → liveLimit < scale (degree v) D
 unfolding liveCheck
 above-limit v D {r} h = ltb-true _ _ (go (ltb liveLimit (scale (degree v) D)) h)
@@ -58,6 +58,17 @@ above-limit v D {r} h = ltb-true _ _ (go (ltb liveLimit (scale (degree v) D)) h)
     go : (b : Bool) → refuseIf 15 b Passed ≡ Stopped r → b ≡ true
     go true k = refl
     go false k = stopped-passed r (sym k)
+
+-- 15 lets m!×D^m up to 2^37 pass
+pub fifteen-passes : (v : Multiplicities) (D : ℕ) → scale (degree v) D ≤ liveLimit → liveCheck v D ≡ Passed
+unfolding liveCheck
+fifteen-passes v D h = rw (le-ltb liveLimit (scale (degree v) D) h) refl
+
+-- and stops what is above
+pub fifteen-stops : (v : Multiplicities) (D : ℕ) → liveLimit < scale (degree v) D
+    → liveCheck v D ≡ Stopped (refusal 15 0)
+unfolding liveCheck
+fifteen-stops v D h = rw (lt-ltb liveLimit (scale (degree v) D) h) refl
 
 -- ---- both chains of checks
 
@@ -89,7 +100,7 @@ module _ (u : Unit) (net : List ℕ) (corrections : List ℤ) (uncertainties : L
   Fifteen = MeetsFifteen u (length net) (length corrections) (length uncertainties) D
 
   abbrev pub fraction : Fraction
-  fraction = point.fraction u net corrections uncertainties x y z D
+  fraction = point.fractionAt u net corrections uncertainties (placing u x y z D) D
 
   -- the exact call goes by its chain
   pub point-is : pointAnswer u net corrections uncertainties x y z D
@@ -106,8 +117,7 @@ module _ (u : Unit) (net : List ℕ) (corrections : List ℤ) (uncertainties : L
 
   -- 15 where it is looked at and applies
   stopped-here : Fifteen → live ≡ Stopped (refusal 15 0)
-  unfolding liveCheck
-  stopped-here m = rw (m .lent, m .divisor, lt-ltb liveLimit (scale (degree (netOf u)) D) (m .above)) refl
+  stopped-here m = rw (m .lent, m .divisor, fifteen-stops (netOf u) D (m .above)) refl
 
   -- else, what stops the exact call stops the live one
   stopped-alike : {r : Refusal} → (Fifteen → ⊥) → exact ≡ Stopped r → live ≡ Stopped r
@@ -152,12 +162,11 @@ module _ (u : Unit) (net : List ℕ) (corrections : List ℤ) (uncertainties : L
 
   -- 15 lets all others pass
   within-passes : Passes → scale (degree (netOf u)) D ≤ liveLimit → live ≡ Passed
-  unfolding liveCheck
   within-passes p h =
       rw (
         p .lent-passed,
         p .divisor-passed,
-        le-ltb liveLimit (scale (degree (netOf u)) D) h,
+        fifteen-passes (netOf u) D h,
         p .inside-passed,
         p .window-passed,
       ) refl

@@ -20,9 +20,8 @@ use Rattle.unit.specs.declared.Refusal.{Refusal}
 use Rattle.unit.specs.declared.Unit.{Unit}
 use Rattle.placing.proofs.Placed.{divisor-accepted, live-accepted}
 use Rattle.placing.proofs.Ranks.{weights-add-up}
-use Rattle.placing.specs.Inner.Ranking.{weightSum}
 use Rattle.placing.specs.Place.{liveCheck, liveLimit, scale}
-use Rattle.placing.specs.Placing.{placing, placingCell, sizes}
+use Rattle.placing.specs.Placing.{placing, placingCell, sizes, weightSum}
 use Rattle.blending.specs.Blend.{correctionAt, numberAt, uncertaintyAt, windowChecks}
 use Rattle.blending.specs.Blending.{addsUp}
 use Rattle.blending.specs.Gaps.{firstGap}

@@ -100,7 +100,7 @@ module _ (file : List ℕ) (correctionsLength uncertaintiesLength : ℕ) where
   eight-lowest i h =
       let never = layout-never 8 file (λ z. omega arith) (λ z. omega arith) (λ z. omega arith) in
       let p = then-second 8 i (layoutChecks file) _ never h in
-      let other = at-never 16 8 (first n isUncertainGap) (λ z. omega arith) in
+      let other = at-never 16 8 (first n isUncertainGap) Passed (λ z. omega arith) (passed-never 8) in
       let after = then-never 8 gaps room other (room-never 8 (λ z. omega arith)) in
       let l = then-first 8 i limit (andThen gaps room) after (p .1) in
       (p .0, found-lowest n isLarge (OverLimit file) (over-limit file) i (at-stopped 8 i (first n isLarge) l))
@@ -122,7 +122,7 @@ module _ (file : List ℕ) (correctionsLength uncertaintiesLength : ℕ) where
   sixteen-lowest i h =
       let never = layout-never 16 file (λ z. omega arith) (λ z. omega arith) (λ z. omega arith) in
       let p = then-second 16 i (layoutChecks file) _ never h in
-      let other = at-never 8 16 (first n isLarge) (λ z. omega arith) in
+      let other = at-never 8 16 (first n isLarge) Passed (λ z. omega arith) (passed-never 16) in
       let q = then-second 16 i limit (andThen gaps room) other (p .1) in
       let g = then-first 16 i gaps room (room-never 16 (λ z. omega arith)) (q .1) in
       let small = first-nowhere isLarge n (at-passed 8 (first n isLarge) Passed (q .0) .0) in (

@@ -15,9 +15,8 @@ use Rattle.sums.specs.Simplex.{sumSimplex, sumSimplexZ}
 use Rattle.sums.specs.Sum.{sumBox, sumBoxZ}
 use Rattle.spline.specs.Multiplicities.{Multiplicities, degree, extent}
 use Rattle.spline.specs.Place.{Axis, a1, a2, a3}
-use Rattle.placing.specs.Inner.Ranking.{weightSum}
 use Rattle.placing.specs.Place.{scale}
-use Rattle.placing.specs.Placing.{placingCell}
+use Rattle.placing.specs.Placing.{placingCell, weightSum}
 use Rattle.placing.specs.declared.Placing.{Placing}
 use Rattle.blending.specs.Blending.{addsUp, allSimplex, blendedCorrection, blendedUncertainty, localPlace}
 use Rattle.blending.specs.Blending.{share, shareSum}

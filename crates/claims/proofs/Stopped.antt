@@ -29,9 +29,10 @@ pub if-never : (k m : ℕ) (applies : Bool) (rest : Checked) → (k ≡ m → �
 if-never k m applies rest other never i h = never i (if-other k m i applies rest other h)
 
 -- nor is one by a search
-pub at-never : (k m : ℕ) (found : Found) → (k ≡ m → ⊥) → Never m (refuseAt k found Passed)
-at-never k m nowhere other i h = passed-never m i h
-at-never k m (at j) other i h =
+pub at-never : (k m : ℕ) (found : Found) (rest : Checked) → (k ≡ m → ⊥) → Never m rest
+    → Never m (refuseAt k found rest)
+at-never k m nowhere rest other never i h = never i h
+at-never k m (at j) rest other never i h =
     let e : refusal k j ≡ refusal m i = cc in
     other (ap (λ (r : Refusal). r .number) e)
 

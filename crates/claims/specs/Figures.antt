@@ -19,7 +19,9 @@ use Rattle.unit.specs.declared.Unit.{Unit}
 use Rattle.field.specs.Encoding.{encoding}
 use Rattle.field.specs.Load.{loadChecks}
 use Rattle.placing.specs.Place.{divisorChecks, liveCheck, pointChecks}
-use Rattle.point.specs.Answer.{pointAnswer}
+use Rattle.placing.specs.Possible.{placingChecks}
+use Rattle.placing.specs.declared.Placing.{Placing}
+use Rattle.point.specs.Answer.{pointAnswer, valuingAnswer}
 use Rattle.point.specs.declared.PointAnswer.{PointAnswer}
 use Rattle.point.specs.declared.PointAnswer.the-variants.{Refused, Value}
 use Rattle.live.specs.Answer.{liveAnswer}
@@ -62,6 +64,15 @@ pub data Figure : Type 0 where
   -- a unit of one entry, and a net slice of so many zeros: a divisor at the point 0, 0, 0, and the number of
   -- the refusal of a live call, whose place is 0
   liveRefused : Unit → ℕ → ℕ → ℕ → Figure
+  -- a unit and a placing, and which of 21, 22, 17 is met, if any
+  placed : Unit → Placing → Checked → Figure
+  -- the net and block of `point`: a placing, and N, U and the denominator
+  valued : List ℤ → Placing → ℤ → ℕ → ℕ → Figure
+
+-- a placing in the cell (k, 1, 1), with an axis order and four weights
+abbrev pub placingIn : ℕ → ℕ → ℕ → ℕ → ℕ → ℕ → ℕ → ℕ → Placing
+placingIn k p r s l0 l1 l2 l3 =
+    record { k1 = k; k2 = 1; k3 = 1; p = p; r = r; s = s; l0 = l0; l1 = l1; l2 = l2; l3 = l3 }
 
 -- the numbers of the simple net, in index order
 abbrev pub simpleNumbers : List ℕ
@@ -101,6 +112,10 @@ Holds (live corrections x y z D N U) =
     ≡ lives.Both (record { numerator = ofBits binary64 N; uncertainty = ofBits binary64 U })
 Holds (liveRefused u places D n) =
     liveAnswer u (tabulate (λ i. 0) places) (pos 0 ∷ []) (0 ∷ []) 0 0 0 D true ≡ lives.Refused (refusal n 0)
+Holds (placed u q checked) = placingChecks u q ≡ checked
+Holds (valued corrections q N U d) =
+    valuingAnswer (unitWith 1 1 1 1 2 2 2) simpleNumbers corrections eightFives q
+    ≡ Value (record { numerator = N; uncertainty = U; denominator = d })
 
 abbrev pub AllHold : List Figure → Type 0
 AllHold [] = Prim.Unit {0}
@@ -118,8 +133,25 @@ oneGap = pos 100 ∷ negsuc 32767 ∷ pos 0 ∷ pos 0 ∷ pos 0 ∷ pos 0 ∷ po
 abbrev pub fivesButGap : List ℕ
 fivesButGap = 5 ∷ 0 ∷ 5 ∷ 5 ∷ 5 ∷ 5 ∷ 5 ∷ 5 ∷ []
 
+-- of placings in a block of 3, 2, 2 under the simple net: possible is one on the far face; not so are its
+-- like in the cell before, a tie with the higher axis first, a cell outside, a sum of weights of 0 and one of
+-- 2^32 + 2, and an axis that stands twice; then those of two points below, valued
+abbrev pub placingFigures : List Figure
+placingFigures =
+    placed (unitWith 1 1 1 1 3 2 2) (placingIn 2 1 2 3 0 1 1 0) Passed
+    ∷ placed (unitWith 1 1 1 1 3 2 2) (placingIn 1 1 2 3 0 1 1 0) (Stopped (refusal 17 0))
+    ∷ placed (unitWith 1 1 1 1 3 2 2) (placingIn 1 1 3 2 1 1 0 0) (Stopped (refusal 17 0))
+    ∷ placed (unitWith 1 1 1 1 3 2 2) (placingIn 3 1 2 3 1 1 0 0) (Stopped (refusal 17 0))
+    ∷ placed (unitWith 1 1 1 1 3 2 2) (placingIn 1 1 2 3 0 0 0 0) (Stopped (refusal 17 0))
+    ∷ placed (unitWith 1 1 1 1 3 2 2) (placingIn 1 1 2 3 4294967295 3 0 0) (Stopped (refusal 17 0))
+    ∷ placed (unitWith 1 1 1 1 3 2 2) (placingIn 1 1 1 3 1 1 0 0) (Stopped (refusal 17 0))
+    ∷ valued twoEntries (placingIn 1 1 2 3 1 1 0 0) (pos 60) 10 2
+    ∷ valued twoEntries (placingIn 1 1 2 3 0 1 0 0) (negsuc 39) 5 1
+    ∷ []
+
 -- of live calls: −40 and 5, 0 and 5; then degree 5 and degree 3, each at its largest divisor, where 12
--- applies, and at one more, where 15 comes before it; and degree 5 where 11 comes before both
+-- applies, and at one more, where 15 comes before it; and degree 5 where 11 comes before both; then of
+-- placings
 abbrev pub liveFigures : List Figure
 liveFigures =
     live twoEntries 2 1 1 1 0xc044_0000_0000_0000 0x4014_0000_0000_0000
@@ -130,7 +162,7 @@ liveFigures =
     ∷ liveRefused (unitWith 5 1 1 1 1 1 1) 3751 298 11
     ∷ liveRefused (unitWith 2 2 1 1 1 1 1) 700 2840 12
     ∷ liveRefused (unitWith 2 2 1 1 1 1 1) 700 2841 15
-    ∷ []
+    ∷ placingFigures
 
 -- of a gap: its point meets 13, with or without an uncertainty there; its file is loaded without one, else it
 -- meets 16, or 8 where a later entry is over the limit
@@ -143,8 +175,8 @@ gapFigures =
     ∷ load oneGap (5 ∷ 5 ∷ 5 ∷ 5 ∷ 5 ∷ 5 ∷ 5 ∷ 40000 ∷ []) (Stopped (refusal 8 7))
     ∷ liveFigures
 
--- of points, then of gaps and live calls; the divisors of degree 5 are tried on a unit with a block of
--- 4, 4, 4, at a point of the one cell that is inside
+-- of points, then of gaps, live calls and placings; the divisors of degree 5 are tried on a unit with a block
+-- of 4, 4, 4, at a point of the one cell that is inside
 abbrev pub pointFigures : List Figure
 pointFigures =
     divisor (unitWith 2 2 2 2 4 4 4) 891 891 891 297 Passed
@@ -155,7 +187,7 @@ pointFigures =
     ∷ refused twoEntries eightFives 0 1 1 1 (refusal 12 0)
     ∷ gapFigures
 
--- of nets, then of points, gaps and live calls
+-- of nets, then of points, gaps, live calls and placings
 abbrev pub figures : List Figure
 figures =
     number [] 1 1 1 1

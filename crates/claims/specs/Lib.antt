@@ -6,3 +6,4 @@ pub mod Demands
 pub mod Live
 pub mod Loads
 pub mod Factory
+pub mod Placings

@@ -8,11 +8,13 @@ use Rattle.unit.specs.Unit.{emptyUnit, withBlock, withNet}
 use Rattle.unit.specs.declared.Refusal.{Refusal}
 use Rattle.unit.specs.declared.Unit.{Unit}
 use Rattle.unit.specs.declared.UnitAnswer.{UnitAnswer}
+use Rattle.placing.specs.declared.Placing.{Placing}
+use Rattle.placing.specs.declared.PlacingAnswer.{PlacingAnswer}
 use Rattle.point.specs.declared.Fraction.{Fraction}
 use Rattle.point.specs.declared.PointAnswer.{PointAnswer}
 use Rattle.live.specs.declared.LiveAnswer.{LiveAnswer}
-use Rattle.flat.specs.Flat.{blockHalf, emptyFlat, flatBlock, flatLive, flatNet, flatPoint, netHalf}
-use Rattle.flat.specs.Flat.{unitOf}
+use Rattle.flat.specs.Flat.{blockHalf, emptyFlat, flatBlock, flatLive, flatNet, flatPlacing, flatPoint}
+use Rattle.flat.specs.Flat.{netHalf, unitOf}
 use Rattle.flat.specs.declared.FlatUnit.{FlatUnit}
 
 -- ---- records
@@ -48,6 +50,14 @@ pub block-number : (before : FlatUnit) (answer : UnitAnswer)
     → (flatBlock before answer .number ≡ 0) ↔ ((after : Unit) × (answer ≡ UnitAnswer.Changed after))
 block-number before (UnitAnswer.Changed after) nonzero = net-number before (UnitAnswer.Changed after) nonzero
 block-number before (UnitAnswer.Refused r) nonzero = net-number before (UnitAnswer.Refused r) nonzero
+
+-- the number of a placing call is 0 exactly where it gives a placing, if no refusal has number 0
+pub placing-number : (answer : PlacingAnswer)
+    → ((r : Refusal) → answer ≡ PlacingAnswer.Refused r → r .number ≡ 0 → ⊥)
+    → (flatPlacing answer .number ≡ 0) ↔ ((q : Placing) × (answer ≡ PlacingAnswer.Placed q))
+placing-number (PlacingAnswer.Placed q) nonzero = (λ _. (q, refl), λ _. refl)
+placing-number (PlacingAnswer.Refused r) nonzero =
+    (λ h. absurd (nonzero r refl h), λ (q, h). let z : _≡_ {A = ℕ} 0 1 = cc in absurd (omega arith))
 
 -- the number of a point call is 0 exactly where it has a value, if no refusal has number 0
 pub point-number : (answer : PointAnswer)

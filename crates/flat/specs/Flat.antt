@@ -6,11 +6,14 @@ use lib.Dec.{eqb}
 use lib.IntN.{pos}
 use Rattle.unit.specs.declared.Unit.{Unit}
 use Rattle.unit.specs.declared.UnitAnswer.{UnitAnswer}
+use Rattle.placing.specs.declared.Placing.{Placing}
+use Rattle.placing.specs.declared.PlacingAnswer.{PlacingAnswer}
 use Rattle.point.specs.declared.PointAnswer.{PointAnswer}
 use Rattle.live.specs.Answer.{float}
 use Rattle.live.specs.declared.LiveAnswer.{LiveAnswer}
 use Rattle.flat.specs.declared.FlatUnit.{FlatUnit}
 use Rattle.flat.specs.declared.FlatLiveAnswer.{FlatLiveAnswer}
+use Rattle.flat.specs.declared.FlatPlacingAnswer.{FlatPlacingAnswer}
 use Rattle.flat.specs.declared.FlatPointAnswer.{FlatPointAnswer}
 use Rattle.flat.specs.declared.FlatUnitAnswer.{FlatUnitAnswer}
 
@@ -72,7 +75,17 @@ abbrev pub flatBlock : FlatUnit → UnitAnswer → FlatUnitAnswer
 flatBlock before (UnitAnswer.Changed after) = record { number = 0; place = 0; unit = blockHalf before after }
 flatBlock before (UnitAnswer.Refused r) = record { number = r .number; place = r .place; unit = before }
 
--- Section 12.2: the answer of a point call
+-- Section 12.2: the placing of a refused call, which is not possible for any unit
+abbrev pub noPlacing : Placing
+noPlacing =
+    record { k1 = 0; k2 = 0; k3 = 0; p = 0; r = 0; s = 0; l0 = 0; l1 = 0; l2 = 0; l3 = 0 }
+
+-- Section 12.2: the answer of a placing call
+abbrev pub flatPlacing : PlacingAnswer → FlatPlacingAnswer
+flatPlacing (PlacingAnswer.Placed q) = record { number = 0; place = 0; placing = q }
+flatPlacing (PlacingAnswer.Refused r) = record { number = r .number; place = r .place; placing = noPlacing }
+
+-- Section 12.2: the answer of a point call or of a valuing call
 abbrev pub flatPoint : PointAnswer → FlatPointAnswer
 flatPoint (PointAnswer.Value f) = record {
   number = 0;
@@ -88,7 +101,7 @@ flatPoint (PointAnswer.Refused r) =
 abbrev pub switchedOn : ℕ → Bool
 switchedOn flag = not (eqb flag 0)
 
--- Section 12.2: the answer of a live call; a float that it does not have is +0
+-- Section 12.2: the answer of a live call or of a live valuing call; a float that it does not have is +0
 abbrev pub flatLive : LiveAnswer → FlatLiveAnswer
 flatLive (LiveAnswer.Both f) =
     record { number = 0; place = 0; numerator = f .numerator; uncertainty = f .uncertainty }

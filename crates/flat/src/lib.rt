@@ -1,8 +1,11 @@
 // The records and answers of the C interface: flat structs in the place of a unit and of enums. Any bytes
 // may stand in a record. docs/SPECIFICATION.md, Section 12.
 ghost use mathlib.Core.Path.{_≡_};
-ghost use Rattle.flat.specs.Flat.{unitOf, flatNet, flatBlock, flatPoint, flatLive, switchedOn};
+ghost use Rattle.flat.specs.Flat.{unitOf, flatNet, flatBlock, flatPlacing, flatPoint, flatLive};
+ghost use Rattle.flat.specs.Flat.{switchedOn};
 use live::LiveAnswer;
+use placing::Placing;
+use placing::PlacingAnswer;
 use point::PointAnswer;
 use unit::Unit;
 use unit::UnitAnswer;
@@ -30,7 +33,16 @@ pub struct FlatUnitAnswer {
     pub unit: FlatUnit,
 }
 
-// What a point call answers: 0, 0 and the fraction; or the number and the place of a refusal and zeros.
+// What a placing call answers: 0, 0 and the placing; or the number and the place of a refusal and zeros.
+#[repr(C)]
+pub struct FlatPlacingAnswer {
+    pub number: u32,
+    pub place: usize,
+    pub placing: Placing,
+}
+
+// What a point call or a valuing call answers: 0, 0 and the fraction; or the number and the place of a
+// refusal and zeros.
 #[repr(C)]
 pub struct FlatPointAnswer {
     pub number: u32,
@@ -40,8 +52,8 @@ pub struct FlatPointAnswer {
     pub denominator: u64,
 }
 
-// What a live call answers: 0, 0, N and U, U being +0 where it is switched off; or the number and the place
-// of a refusal and +0 for both.
+// What a live call or a live valuing call answers: 0, 0, N and U, U being +0 where it is switched off; or the
+// number and the place of a refusal and +0 for both.
 #[repr(C)]
 pub struct FlatLiveAnswer {
     pub number: u32,
@@ -123,7 +135,36 @@ pub fn flat_block(before: FlatUnit, answer: UnitAnswer) -> FlatUnitAnswer
     }
 }
 
-// The answer of a point call.
+// The answer of a placing call.
+pub fn flat_placing(answer: PlacingAnswer) -> FlatPlacingAnswer
+    ensures { λ r. ⌜ r ≡ flatPlacing answer ⌝ }
+{
+    match answer {
+        PlacingAnswer::Placed(q) => FlatPlacingAnswer {
+            number: 0,
+            place: 0,
+            placing: q,
+        },
+        PlacingAnswer::Refused(refusal) => FlatPlacingAnswer {
+            number: refusal.number,
+            place: refusal.place,
+            placing: Placing {
+                k1: 0,
+                k2: 0,
+                k3: 0,
+                p: 0,
+                r: 0,
+                s: 0,
+                l0: 0,
+                l1: 0,
+                l2: 0,
+                l3: 0,
+            },
+        },
+    }
+}
+
+// The answer of a point call or of a valuing call.
 pub fn flat_point(answer: PointAnswer) -> FlatPointAnswer
     ensures { λ r. ⌜ r ≡ flatPoint answer ⌝ }
 {
@@ -152,7 +193,7 @@ pub fn switched_on(flag: u8) -> bool
     flag != 0
 }
 
-// The answer of a live call.
+// The answer of a live call or of a live valuing call.
 pub fn flat_live(answer: LiveAnswer) -> FlatLiveAnswer
     ensures { λ r. ⌜ r ≡ flatLive answer ⌝ }
 {

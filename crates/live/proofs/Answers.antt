@@ -1,4 +1,5 @@
--- The answer of a live call, case by case, from what its checks and its blending answered.
+-- The answers of a live call and of a live valuing call, case by case, from what their checks and their
+-- blending answered.
 use mathlib.Core.Bool.{Bool, false, true}
 use mathlib.Core.List.{List}
 use mathlib.Core.Path.{_∙_, _≡_, refl, sym}
@@ -13,14 +14,18 @@ use Rattle.unit.specs.declared.Checked.{Checked}
 use Rattle.unit.specs.declared.Checked.the-variants.{Passed, Stopped}
 use Rattle.unit.specs.declared.Refusal.{Refusal}
 use Rattle.unit.specs.declared.Unit.{Unit}
-use Rattle.placing.proofs.Placed.{live-accepted, refused-by}
+use Rattle.placing.proofs.Placed.{live-accepted, refused-by, unit-passed}
 use Rattle.placing.specs.Place.{divisorChecks, lentChecks, liveCheck, liveLimit, pointChecks, scale}
 use Rattle.placing.specs.Place.{unitChecks}
-use Rattle.placing.specs.Placing.{placing, sizes}
+use Rattle.placing.specs.Placing.{placing, sizes, weightSum}
+use Rattle.placing.specs.Possible.{livePlacingChecks, placedChecks, placingChecks}
+use Rattle.placing.specs.declared.Placing.{Placing}
 use Rattle.placing.specs.declared.PlacingAnswer.the-variants as placings
-use Rattle.blending.specs.Blend.{blendAnswer, blendChecks, correctionAt, numberAt, uncertaintyAt}
+use Rattle.blending.specs.Blend.{blendAnswer, blendChecks, blendPlacedChecks, correctionAt, numberAt}
+use Rattle.blending.specs.Blend.{uncertaintyAt}
 use Rattle.point.specs.Bernstein.{shiftNumerator, uncertaintyNumerator}
-use Rattle.live.specs.Answer.{float, liveAnswer, liveChecks, liveValue}
+use Rattle.live.specs.Answer.{float, liveAnswer, liveChecks, liveValue, liveValuingAnswer}
+use Rattle.live.specs.Answer.{liveValuingChecks}
 use Rattle.live.specs.declared.LiveAnswer.{LiveAnswer}
 use Rattle.live.specs.declared.LiveAnswer.the-variants.{Both, Refused, Shift}
 
@@ -51,11 +56,6 @@ module _ (u : Unit) (net : List ℕ) (corrections : List ℤ) (uncertainties : L
   unfolding liveAnswer liveChecks
   lent-refused h = rw h refl
 
-  -- the unit has passed with what is lent
-  unit-passed : lent ≡ Passed → unitChecks u ≡ Passed
-  unfolding lentChecks
-  unit-passed h = then-passed (unitChecks u) _ h .0
-
   -- 21, 22, 10, 11 and 15, as one function looks at them
   abbrev early : Checked
   early = andThen (unitChecks u) (andThen (divisorChecks (netOf u) D) (liveCheck (netOf u) D))
@@ -77,7 +77,7 @@ module _ (u : Unit) (net : List ℕ) (corrections : List ℤ) (uncertainties : L
     pub early-refused : {r : Refusal} → early ≡ Stopped r
         → Refused r ≡ answer
     early-refused {r} h =
-        go (divisorChecks (netOf u) D) (liveCheck (netOf u) D) refl refl (rw (unit-passed l) at h)
+        go (divisorChecks (netOf u) D) (liveCheck (netOf u) D) refl refl (rw (unit-passed u _ _ _ l) at h)
       where
         go : (a b : Checked) → divisorChecks (netOf u) D ≡ a → liveCheck (netOf u) D ≡ b
             → andThen a b ≡ Stopped r → Refused r ≡ answer
@@ -87,7 +87,7 @@ module _ (u : Unit) (net : List ℕ) (corrections : List ℤ) (uncertainties : L
 
     module _ (h : early ≡ Passed) where
       divisor-passed : (divisorChecks (netOf u) D ≡ Passed) × (liveCheck (netOf u) D ≡ Passed)
-      divisor-passed = then-passed (divisorChecks (netOf u) D) _ (rw (unit-passed l) at h)
+      divisor-passed = then-passed (divisorChecks (netOf u) D) _ (rw (unit-passed u _ _ _ l) at h)
 
       -- where all of these pass, m!×D^m is within the limit of a live call
       pub scale-within : scale (degree (netOf u)) D ≤ liveLimit
@@ -117,3 +117,45 @@ module _ (u : Unit) (net : List ℕ) (corrections : List ℤ) (uncertainties : L
           ≡ answer
       unfolding liveAnswer
       answered k = rw (checks-left, k) refl
+
+-- ---- at a placing
+
+module _ (u : Unit) (net : List ℕ) (corrections : List ℤ) (uncertainties : List ℕ) (q : Placing)
+    (withUncertainty : Bool) where
+  abbrev valued : LiveAnswer
+  valued = liveValuingAnswer u net corrections uncertainties q withUncertainty
+
+  -- what 21, 22, 17 or 15 refuses
+  pub placing-refused : {r : Refusal} → livePlacingChecks u q ≡ Stopped r → Refused r ≡ valued
+  unfolding liveValuingAnswer liveValuingChecks
+  placing-refused h = rw h refl
+
+  module _ (h : livePlacingChecks u q ≡ Passed) where
+    placing-passed : (placingChecks u q ≡ Passed) × (liveCheck (netOf u) (weightSum q) ≡ Passed)
+    unfolding livePlacingChecks
+    placing-passed = then-passed (placingChecks u q) _ h
+
+    -- where all of these pass, m!×D^m is within the limit of a live call
+    pub placed-within : scale (degree (netOf u)) (weightSum q) ≤ liveLimit
+    placed-within = live-accepted (netOf u) (weightSum q) (placing-passed .1)
+
+    -- and the checks that are left are those of a blending at the placing
+    value-checks-left : liveValuingChecks u net corrections uncertainties q
+        ≡ blendPlacedChecks u net corrections uncertainties q
+    unfolding liveValuingChecks blendPlacedChecks placedChecks
+    value-checks-left = rw (h, placing-passed .0) refl
+
+    -- so what it refuses is refused
+    pub value-refused : {r : Refusal} → blendPlacedChecks u net corrections uncertainties q ≡ Stopped r
+        → Refused r ≡ valued
+    unfolding liveValuingAnswer
+    value-refused k = rw (value-checks-left, k) refl
+
+    -- and one that passed is answered with N and U
+    pub value-answered : blendPlacedChecks u net corrections uncertainties q ≡ Passed
+        → liveValue withUncertainty
+        (shiftNumerator (netOf u) (numberAt net) (correctionAt (sizes u) corrections) q)
+        (uncertaintyNumerator (netOf u) (numberAt net) (uncertaintyAt (sizes u) uncertainties) q)
+        ≡ valued
+    unfolding liveValuingAnswer
+    value-answered k = rw (value-checks-left, k) refl

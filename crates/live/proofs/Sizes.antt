@@ -11,8 +11,8 @@ use Rattle.sums.proofs.Simplex.{tetrahedron, triangle}
 use Rattle.sums.proofs.SumZ.{sumZ-pos}
 use Rattle.sums.specs.Coefficient.{binomial, factorial}
 use Rattle.sums.specs.Simplex.{bernstein}
-use Rattle.placing.specs.Inner.Ranking.{weightSum}
 use Rattle.placing.specs.Place.{liveLimit, scale}
+use Rattle.placing.specs.Placing.{weightSum}
 use Rattle.placing.specs.declared.Placing.{Placing}
 use Rattle.blending.specs.LocalPlaces.{localPlaces}
 use Rattle.point.proofs.Weights.{weight-at, weights-total}

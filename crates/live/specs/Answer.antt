@@ -1,5 +1,5 @@
--- What a live call answers, by cases in the order of its checks (21, 22, 4, 9, 10, 11, 15, 12, 13, 23):
--- Sections 11.7 and 11.8.
+-- What a live call and a live valuing call answer, by cases in the order of their checks (21, 22, 4, 9, 10,
+-- 11, 15, 12, 13, 23; 21, 22, 17, 15, 4, 9, 13, 23): Sections 11.7, 11.8 and 11.12.
 use mathlib.Core.Bool.{Bool, false, true}
 use mathlib.Core.List.{List}
 use Prim.Native.Nat.{ℕ}
@@ -10,8 +10,10 @@ use Rattle.unit.specs.Checks.{andThen, passedOr}
 use Rattle.unit.specs.Unit.{netOf}
 use Rattle.unit.specs.declared.Checked.{Checked}
 use Rattle.unit.specs.declared.Unit.{Unit}
-use Rattle.placing.specs.Place.{divisorChecks, insideCheck, lentChecks, liveCheck}
+use Rattle.placing.specs.Place.{divisorChecks, insideCheck, lentChecks, liveCheck, roomChecks}
 use Rattle.placing.specs.Placing.{cells, placing, sizes}
+use Rattle.placing.specs.Possible.{livePlacingChecks}
+use Rattle.placing.specs.declared.Placing.{Placing}
 use Rattle.blending.specs.Blend.{correctionAt, numberAt, uncertaintyAt, windowChecks}
 use Rattle.point.specs.Bernstein.{shiftNumerator, uncertaintyNumerator}
 use Rattle.live.specs.declared.LiveAnswer.{LiveAnswer}
@@ -45,4 +47,21 @@ module _ (u : Unit) (net : List ℕ) (corrections : List ℤ) (uncertainties : L
       (shiftNumerator (netOf u) (numberAt net) (correctionAt (sizes u) corrections) (placing u x y z D))
       (uncertaintyNumerator (netOf u) (numberAt net) (uncertaintyAt (sizes u) uncertainties)
       (placing u x y z D)))
+      Refused
+
+module _ (u : Unit) (net : List ℕ) (corrections : List ℤ) (uncertainties : List ℕ) (q : Placing) where
+  -- Section 11.12: all checks at a placing in their order
+  unfoldable pub liveValuingChecks : Checked
+  liveValuingChecks =
+      andThen (livePlacingChecks u q)
+      (andThen (roomChecks u (length net) (length corrections) (length uncertainties))
+      (windowChecks (netOf u) (sizes u) (numberAt net) (correctionAt (sizes u) corrections) q))
+
+  -- Section 11.12: the answer at a placing
+  unfoldable pub liveValuingAnswer : Bool → LiveAnswer
+  liveValuingAnswer withUncertainty =
+      passedOr liveValuingChecks
+      (liveValue withUncertainty
+      (shiftNumerator (netOf u) (numberAt net) (correctionAt (sizes u) corrections) q)
+      (uncertaintyNumerator (netOf u) (numberAt net) (uncertaintyAt (sizes u) uncertainties) q))
       Refused

@@ -1,9 +1,19 @@
-// The live answer at a rational point: N and U as 64-bit floats, or the refusal that applies. Blending is in
-// whole numbers, as for the exact answer; the Bernstein sums are made in floats, each step exact.
-// Sections 11.7 and 11.8.
+// The live answer at a rational point or at a placing: N and U as 64-bit floats, or the refusal that applies.
+// Blending is in whole numbers, as for the exact answer; the Bernstein sums are made in floats, each step
+// exact. Sections 11.7, 11.8 and 11.12.
 ghost use mathlib.Core.Path.{_≡_};
-ghost use Rattle.live.specs.Answer.{liveAnswer};
+ghost use Prim.Native.Nat.{_≤_};
+ghost use Rattle.spline.specs.Multiplicities.{degree};
+ghost use Rattle.unit.specs.Unit.{netOf};
+ghost use Rattle.placing.specs.Place.{liveLimit, scale};
+ghost use Rattle.placing.specs.Placing.{weightSum};
+ghost use Rattle.blending.specs.Blend.{numberAt, signedAt};
+ghost use Rattle.point.specs.Inner.Parts.{BlendedSizes, partsTo};
+ghost use Rattle.point.specs.Inner.Weights.{Scaled};
+ghost use Rattle.live.specs.Answer.{liveAnswer, liveValue, liveValuingAnswer};
+use placing::Placing;
 use placing::PlacingAnswer;
+use placing::possible;
 use shape::Counts;
 use unit::Checked;
 use unit::Refusal;
@@ -17,11 +27,36 @@ pub struct Floats {
     pub uncertainty: f64,
 }
 
-// What a live call answers: both floats, or N alone where the uncertainty is switched off.
+// What a live call or a live valuing call answers: both floats, or N alone where the uncertainty is switched
+// off.
 pub enum LiveAnswer {
     Both(Floats),
     Shift(f64),
     Refused(Refusal),
+}
+
+// N and U at a placing, N alone where the flag is off, from the blended numbers of its local places.
+fn summed(
+    unit: Unit,
+    q: Placing,
+    shifts: &[i64; 220],
+    spreads: &[u64; 220],
+    with_uncertainty: bool,
+) -> LiveAnswer
+    requires { ⌜ Scaled (degree (netOf unit)) q × (scale (degree (netOf unit)) (weightSum q) ≤ liveLimit)
+        × BlendedSizes (degree (netOf unit)) (signedAt (now shifts)) (numberAt (now spreads)) ⌝ }
+    ensures { λ r. ⌜ r ≡ liveValue «with_uncertainty»
+        (partsTo (degree (netOf unit)) q (signedAt (now (shifts .entry))) (numberAt (now (spreads .entry)))
+        .numerator)
+        (partsTo (degree (netOf unit)) q (signedAt (now (shifts .entry))) (numberAt (now (spreads .entry)))
+        .uncertainty) ⌝ }
+{
+    let m = shape::degree_of(Counts::of_unit(unit));
+    let sums = bernstein::float_sums(m, q, shifts, spreads);
+    if with_uncertainty {
+        return LiveAnswer::Both(sums);
+    }
+    LiveAnswer::Shift(sums.numerator)
 }
 
 // N and U as floats at the point X, Y, Z over a divisor, N alone where the flag is off, or the first refusal
@@ -66,14 +101,40 @@ pub fn answer(
         &mut spreads,
     );
     match blended {
-        PlacingAnswer::Placed(q) => {
-            let m = shape::degree_of(Counts::of_unit(unit));
-            let sums = bernstein::float_sums(m, q, &shifts, &spreads);
-            if with_uncertainty {
-                return LiveAnswer::Both(sums);
-            }
-            LiveAnswer::Shift(sums.numerator)
-        }
+        PlacingAnswer::Placed(q) => summed(unit, q, &shifts, &spreads, with_uncertainty),
         PlacingAnswer::Refused(refusal) => LiveAnswer::Refused(refusal),
     }
+}
+
+// N and U as floats at a placing, N alone where the flag is off, or the first refusal that applies of 21, 22,
+// 17, 15, 4, 9, 13, 23, with the lowest index of a gap for 13.
+pub fn value(
+    unit: Unit,
+    net: &[u32],
+    corrections: &[i16],
+    uncertainties: &[u16],
+    q: Placing,
+    with_uncertainty: bool,
+) -> LiveAnswer
+    ensures { λ r. ⌜ r ≡ liveValuingAnswer unit (now (net .entry)) (now (corrections .entry))
+        (now (uncertainties .entry)) q «with_uncertainty» ⌝ }
+{
+    if let Checked::Stopped(refusal) = possible::check_live(unit, q) {
+        return LiveAnswer::Refused(refusal);
+    }
+    let mut shifts = [0i64; 220];
+    let mut spreads = [0u64; 220];
+    let blended = blending::blend_placed(
+        unit,
+        net,
+        corrections,
+        uncertainties,
+        q,
+        &mut shifts,
+        &mut spreads,
+    );
+    if let Checked::Stopped(refusal) = blended {
+        return LiveAnswer::Refused(refusal);
+    }
+    summed(unit, q, &shifts, &spreads, with_uncertainty)
 }

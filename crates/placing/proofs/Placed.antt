@@ -4,7 +4,7 @@ use mathlib.Core.Path.{_≡_, refl}
 use Prim.Native.Nat.{_≤_, ℕ}
 use native.Mathlib.Nat.{pos-of-ne-zero}
 use native.Mathlib.Omega.{arith}
-use borrow.Author.Tests.{eqb-false, ltb-false, not-false}
+use borrow.Author.Tests.{eqb-false, le-ltb, ltb-false, ne-eqb, not-false}
 use lib.Dec.{eqb, ltb}
 use Rattle.spline.specs.Box.{places, width}
 use Rattle.spline.specs.Multiplicities.{Multiplicities, degree}
@@ -16,7 +16,7 @@ use Rattle.unit.specs.declared.Checked.the-variants.{Passed, Stopped}
 use Rattle.unit.specs.declared.Refusal.{Refusal}
 use Rattle.unit.specs.declared.Unit.{Unit}
 use Rattle.placing.specs.Place.{divisorChecks, insideCheck, lentChecks, limit, liveCheck, liveLimit}
-use Rattle.placing.specs.Place.{placeAnswer, pointChecks, scale, unitChecks}
+use Rattle.placing.specs.Place.{placeAnswer, pointChecks, roomChecks, scale, unitChecks}
 use Rattle.placing.specs.Placing.{cells, inside, placing, sizes}
 use Rattle.placing.specs.declared.Placing.{Placing}
 use Rattle.placing.specs.declared.PlacingAnswer.the-variants as answers
@@ -40,19 +40,28 @@ module _ (u : Unit) (netLength correctionsLength uncertaintiesLength : ℕ) wher
     pub corrections-long : places (sizes u) ≤ correctionsLength
     pub uncertainties-long : places (sizes u) ≤ uncertaintiesLength
 
-  -- what is lent has passed its checks: the unit has a net and a block, and every slice is long enough
-  pub lent : lentChecks u netLength correctionsLength uncertaintiesLength ≡ Passed → Lent
-  unfolding lentChecks
-  lent h =
-      let a = then-passed (unitChecks u) _ h in
-      let b = if-passed 4 _ _ (a .1) in
+  -- slices that pass 4 and 9 are long enough
+  pub lent-by : Equipped u → roomChecks u netLength correctionsLength uncertaintiesLength ≡ Passed → Lent
+  lent-by e h =
+      let b = if-passed 4 _ _ h in
       let c = room-passed (places (sizes u)) correctionsLength uncertaintiesLength (b .1) in
       record {
-        unit = equipped u (a .0);
+        unit = e;
         net-long = ltb-false _ _ (b .0);
         corrections-long = c .0;
         uncertainties-long = c .1;
       }
+
+  -- where what is lent has passed its checks, the unit has passed its own
+  pub unit-passed : lentChecks u netLength correctionsLength uncertaintiesLength ≡ Passed
+      → unitChecks u ≡ Passed
+  unfolding lentChecks
+  unit-passed h = then-passed (unitChecks u) _ h .0
+
+  -- and has a net and a block
+  pub lent : lentChecks u netLength correctionsLength uncertaintiesLength ≡ Passed → Lent
+  unfolding lentChecks
+  lent h = let a = then-passed (unitChecks u) _ h in lent-by (equipped u (a .0)) (a .1)
 
 pub record InRange (D : ℕ) : Type 0 where
   pub some : 1 ≤ D
@@ -87,6 +96,16 @@ divisor-accepted v D h =
     let p : refuseIf 10 (eqb D 0 || ltb 4096 D) Passed ≡ Passed = rw (a .0) refl in
     let r = in-range D p in
     record { some = r .some; few = r .few; scaled = ltb-false _ _ (b .0) }
+
+-- and the other way round
+pub divisor-passes : (v : Multiplicities) (D : ℕ) → DivisorAccepted v D → divisorChecks v D ≡ Passed
+unfolding divisorChecks
+divisor-passes v D a =
+    simp (
+      ne-eqb D 0 (λ e. omega (arith, a .some)),
+      le-ltb 4096 D (a .few),
+      le-ltb limit (scale (degree v) D) (a .scaled),
+    )
 
 -- one that passes 15 is within the limit of a live call
 pub live-accepted : (v : Multiplicities) (D : ℕ) → liveCheck v D ≡ Passed → scale (degree v) D ≤ liveLimit

@@ -11,9 +11,9 @@ use Rattle.spline.specs.Place.{Axis, a1, a2, a3}
 use Rattle.unit.specs.declared.Unit.{Unit}
 use Rattle.placing.proofs.Cells.{remainder-most}
 use Rattle.placing.specs.Inner.Ranking.{Axes, inOrder, o123, o132, o213, o231, o312, o321}
-use Rattle.placing.specs.Inner.Ranking.{ranked, ranking, thirdAmong, weightSum}
+use Rattle.placing.specs.Inner.Ranking.{ranked, ranking, thirdAmong}
 use Rattle.placing.specs.Placing.{AxisRanks, axisNumber, axisRanks, onAxes, placing, rankAxes}
-use Rattle.placing.specs.Placing.{withThird}
+use Rattle.placing.specs.Placing.{weightSum, withThird}
 use Rattle.placing.specs.declared.ranking.Ranking.{Ranking}
 
 -- axis 3 among two others is ranked as the definition has it
@@ -33,7 +33,7 @@ third-ranked u a b = go (leb (u a3) (u b)) (leb (u a3) (u a))
     go false false = refl
 
 -- the six orders, each with what the tests say
-rank-cases : (u : Axis → ℕ) (P : AxisRanks → Type 0)
+pub rank-cases : (u : Axis → ℕ) (P : AxisRanks → Type 0)
     → (u a2 ≤ u a1 → u a3 ≤ u a2 → P (axisRanks a1 a2 a3))
     → (u a3 ≤ u a1 → u a2 < u a3 → P (axisRanks a1 a3 a2))
     → (u a2 ≤ u a1 → u a1 < u a3 → P (axisRanks a3 a1 a2))

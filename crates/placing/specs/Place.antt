@@ -28,13 +28,16 @@ limit = 281474976710656
 unfoldable pub unitChecks : Unit → Checked
 unitChecks u = refuseIf 21 (not (hasNet u)) (refuseIf 22 (not (hasBlock u)) Passed)
 
--- Section 5.3: 21, 22, 4 for a net slice shorter than the net's box, 9 for a block slice shorter than the
--- block
+-- Section 5.3: 4 for a net slice shorter than the net's box, 9 for a block slice shorter than the block
+abbrev pub roomChecks : Unit → ℕ → ℕ → ℕ → Checked
+roomChecks u netLength correctionsLength uncertaintiesLength =
+    refuseIf 4 (ltb netLength (places (width (netOf u))))
+    (blockRoomCheck (places (sizes u)) correctionsLength uncertaintiesLength)
+
+-- Section 5.3: 21, 22, 4, 9
 unfoldable pub lentChecks : Unit → ℕ → ℕ → ℕ → Checked
 lentChecks u netLength correctionsLength uncertaintiesLength =
-    andThen (unitChecks u)
-    (refuseIf 4 (ltb netLength (places (width (netOf u))))
-    (blockRoomCheck (places (sizes u)) correctionsLength uncertaintiesLength))
+    andThen (unitChecks u) (roomChecks u netLength correctionsLength uncertaintiesLength)
 
 -- Section 5.3: 10 for a divisor out of bounds, 11 for one too large for the degree
 unfoldable pub divisorChecks : Multiplicities → ℕ → Checked

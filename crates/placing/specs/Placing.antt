@@ -1,6 +1,6 @@
 -- Where a point lies: its cell, the ranks of the axes and the four weights. Section 9.
 use mathlib.Core.Bool.{Bool, _&&_, cond}
-use Prim.Native.Nat.{_%_, _*_, _-_, _/_, ℕ}
+use Prim.Native.Nat.{_%_, _*_, _+_, _-_, _/_, ℕ}
 use lib.Dec.{eqb, leb}
 use Rattle.spline.specs.Multiplicities.{Multiplicities, extent}
 use Rattle.spline.specs.Place.{Axis, a1, a2, a3}
@@ -93,3 +93,7 @@ placing u x y z D = placingOn (located x D (u .n1)) (located y D (u .n2)) (locat
 -- k of a placing
 abbrev pub placingCell : Placing → Axis → ℕ
 placingCell q = onAxes (q .k1) (q .k2) (q .k3)
+
+-- Section 9.4: D, which its weights add up to
+abbrev pub weightSum : Placing → ℕ
+weightSum q = q .l0 + q .l1 + q .l2 + q .l3

@@ -8,6 +8,7 @@ ghost use Rattle.unit.specs.Checks.{andThen, refuseIf};
 ghost use Rattle.unit.specs.Unit.{netOf, hasNet};
 ghost use Rattle.unit.specs.declared.Checked.the-variants.{Passed};
 ghost use Rattle.placing.specs.Place.{divisorChecks, limit, liveCheck, scale, unitChecks};
+ghost use Rattle.placing.specs.Possible.{divisorPossible};
 use shape::Counts;
 use unit::Checked;
 use unit::Unit;
@@ -36,12 +37,20 @@ fn scale_allowed(m: usize, divisor: u32, most: u64) -> bool
     true
 }
 
+// The same for the degree of the unit's net.
+fn scale_within(unit: Unit, divisor: u32, most: u64) -> bool
+    requires { ⌜ (hasNet unit ≡ true) × (1 ≤ divisor) × (divisor ≤ 4096) × (1 ≤ most) × (most ≤ limit) ⌝ }
+    ensures { λ r. ⌜ r ≡ leb (scale (degree (netOf unit)) divisor) most ⌝ }
+{
+    scale_allowed(shape::degree_of(Counts::of_unit(unit)), divisor, most)
+}
+
 // Refuses by the number where m!×D^m is larger.
 fn check_scale(unit: Unit, divisor: u32, number: u32, most: u64) -> Checked
     requires { ⌜ (hasNet unit ≡ true) × (1 ≤ divisor) × (divisor ≤ 4096) × (1 ≤ most) × (most ≤ limit) ⌝ }
     ensures { λ r. ⌜ r ≡ refuseIf number (ltb most (scale (degree (netOf unit)) divisor)) Passed ⌝ }
 {
-    if !scale_allowed(shape::degree_of(Counts::of_unit(unit)), divisor, most) {
+    if !scale_within(unit, divisor, most) {
         return Checked::stop(number, 0);
     }
     Checked::Passed
@@ -71,6 +80,28 @@ pub(crate) fn check_divisor(unit: Unit, divisor: u32) -> Checked
     check_scale(unit, divisor, 11, SCALE)
 }
 
+// Whether neither of them applies to D.
+pub(crate) fn is_possible(unit: Unit, divisor: u64) -> bool
+    requires { ⌜ hasNet unit ≡ true ⌝ }
+    ensures { λ r. ⌜ r ≡ divisorPossible (netOf unit) divisor ⌝ }
+{
+    if divisor < 1 {
+        return false;
+    }
+    if (Unit::DIVISOR as u64) < divisor {
+        return false;
+    }
+    scale_within(unit, divisor as u32, SCALE)
+}
+
+// Check 15.
+pub(crate) fn check_live_scale(unit: Unit, divisor: u32) -> Checked
+    requires { ⌜ (hasNet unit ≡ true) × (1 ≤ divisor) × (divisor ≤ 4096) ⌝ }
+    ensures { λ r. ⌜ r ≡ liveCheck (netOf unit) divisor ⌝ }
+{
+    check_scale(unit, divisor, 15, LIVE_SCALE)
+}
+
 // Checks 21, 22, 10, 11 and 15.
 pub fn check_live(unit: Unit, divisor: u32) -> Checked
     ensures { λ r. ⌜ r ≡ andThen (unitChecks unit)
@@ -83,6 +114,6 @@ pub fn check_live(unit: Unit, divisor: u32) -> Checked
         return Checked::Stopped(refusal);
     }
     let exact = check_scale(unit, divisor, 11, SCALE);
-    let live = check_scale(unit, divisor, 15, LIVE_SCALE);
+    let live = check_live_scale(unit, divisor);
     exact.and_then(live)
 }

@@ -4,7 +4,7 @@ ghost use mathlib.Core.Path.{_≡_};
 ghost use mathlib.Core.Bool.{true};
 ghost use Prim.Native.Nat.{_+_, _≤_};
 ghost use Rattle.unit.specs.Unit.{netOf, hasBlock};
-ghost use Rattle.placing.specs.Placing.{insideOn, located, onAxes, placingOn, sizes};
+ghost use Rattle.placing.specs.Placing.{inside, insideOn, located, onAxes, placingOn, sizes};
 ghost use Rattle.placing.specs.Place.{insideCheck, lentChecks, placeAnswer, unitChecks};
 use shape::Counts;
 use unit::Checked;
@@ -12,9 +12,12 @@ use unit::Refusal;
 use unit::Unit;
 
 pub mod divisor;
+pub mod possible;
 mod ranking;
 
-// k on the three axes, the axes in the order p, r, s, and the weights, whose sum is D.
+// k on the three axes, the axes in the order p, r, s, and the weights, whose sum is D. Any values may stand
+// in it; a call that is handed one looks whether the placing call gives it. It is laid out for C.
+#[repr(C)]
 pub struct Placing {
     pub k1: u32,
     pub k2: u32,
@@ -90,18 +93,26 @@ fn inside_on(v: u8, v4: u8, size: u16, k: u32) -> bool
     k < size as usize
 }
 
+// Whether a cell is inside.
+fn is_inside(unit: Unit, k1: u32, k2: u32, k3: u32) -> bool
+    requires { ⌜ hasBlock unit ≡ true ⌝ }
+    ensures { λ r. ⌜ r ≡ inside (netOf unit) (sizes unit) (onAxes k1 k2 k3) ⌝ }
+{
+    if !inside_on(unit.v1, unit.v4, unit.n1, k1) {
+        return false;
+    }
+    if !inside_on(unit.v2, unit.v4, unit.n2, k2) {
+        return false;
+    }
+    inside_on(unit.v3, unit.v4, unit.n3, k3)
+}
+
 // Check 12, by the cell.
 fn check_inside(unit: Unit, k1: u32, k2: u32, k3: u32) -> Checked
     requires { ⌜ hasBlock unit ≡ true ⌝ }
     ensures { λ r. ⌜ r ≡ insideCheck (netOf unit) (sizes unit) (onAxes k1 k2 k3) ⌝ }
 {
-    if !inside_on(unit.v1, unit.v4, unit.n1, k1) {
-        return Checked::stop(12, 0);
-    }
-    if !inside_on(unit.v2, unit.v4, unit.n2, k2) {
-        return Checked::stop(12, 0);
-    }
-    if !inside_on(unit.v3, unit.v4, unit.n3, k3) {
+    if !is_inside(unit, k1, k2, k3) {
         return Checked::stop(12, 0);
     }
     Checked::Passed

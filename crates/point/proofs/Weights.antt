@@ -22,8 +22,8 @@ use Rattle.sums.specs.Search.{allTo}
 use Rattle.sums.specs.Simplex.{bernstein, sumSimplex}
 use Rattle.sums.specs.Sum.{sumTo}
 use Rattle.placing.proofs.Scale.{scale-le}
-use Rattle.placing.specs.Inner.Ranking.{weightSum}
 use Rattle.placing.specs.Place.{limit, scale}
+use Rattle.placing.specs.Placing.{weightSum}
 use Rattle.placing.specs.declared.Placing.{Placing}
 use Rattle.blending.proofs.Numbers.{count-is, local-is}
 use Rattle.blending.specs.LocalPlaces.{localPlaces}

@@ -3,8 +3,8 @@ ghost use mathlib.Core.Path.{_≡_};
 ghost use Prim.Native.Nat.{ℕ, _+_, _*_, _-_, _^_, _≤_, _<_};
 ghost use lib.ListN.{getD};
 ghost use lib.IntN.{natAbs};
-ghost use Rattle.placing.specs.Inner.Ranking.{weightSum};
 ghost use Rattle.placing.specs.Place.{scale, limit};
+ghost use Rattle.placing.specs.Placing.{weightSum};
 ghost use Rattle.blending.specs.Blend.{numberAt, signedAt};
 ghost use Rattle.point.specs.Bernstein.{binomialTable, termWeight};
 ghost use Rattle.point.specs.Inner.Weights.{Binomials, Scaled, Tables, WithinDegree, factor};
@@ -143,7 +143,7 @@ pub(crate) fn denominator(m: usize, q: Placing) -> u64
     requires { ⌜ Scaled m q ⌝ }
     ensures { λ r. ⌜ r ≡ scale m (weightSum q) ⌝ }
 {
-    let d = q.l0 as u64 + q.l1 as u64 + q.l2 as u64 + q.l3 as u64;
+    let d = q.divisor();
     let mut product: u64 = 1;
     let mut i: u64 = 0;
     while i < m as u64 {

@@ -147,7 +147,7 @@ fn compensated(v: Multiplicities, shelf: &Shelf) -> Scene {
 }
 
 /// At places inside the cells: one with a residue 0 would be a local place of two of them.
-fn inner_exchanged(v: Multiplicities, shelf: &Shelf) -> Scene {
+pub fn inner_exchanged(v: Multiplicities, shelf: &Shelf) -> Scene {
     exchanged(v, |place| place.iter().all(|c| c % v.degree() != 0), shelf)
 }
 

@@ -8,6 +8,7 @@ mod gaps;
 mod inspections;
 mod live;
 mod loads;
+mod placings;
 mod points;
 mod refusals;
 mod scene;
@@ -65,7 +66,7 @@ fn all_nets(wanted: &BTreeSet<Multiplicities>) -> (String, Shelf) {
 fn make() -> Vec<Vectors> {
     let of_points = [points::shapes(), faces::shapes(), refusals::shapes(), damage::shapes(), gaps::shapes()].concat();
     let of_nets = [inspections::shapes(), whole::shapes(), factory::shapes()].concat();
-    let wanted = [of_points, live::shapes(), of_nets].concat();
+    let wanted = [of_points, live::shapes(), placings::shapes(), of_nets].concat();
     let (digests, shelf) = all_nets(&wanted.into_iter().collect());
     let scenes = [points::scenes(), faces::scenes(), refusals::scenes(&shelf), damage::scenes(&shelf), gaps::scenes()];
     let scenes: Vec<Scene> = scenes.into_iter().flatten().collect();
@@ -79,6 +80,7 @@ fn make() -> Vec<Vectors> {
         Vectors { name: "loads.txt", text: loads::text() },
         Vectors { name: "points.txt", text: points::text(&scenes, &shelf) },
         Vectors { name: "live.txt", text: live::text(&live::scenes(&shelf), &shelf) },
+        Vectors { name: "placings.txt", text: placings::text(&placings::scenes(&shelf), &shelf) },
     ]
 }
 
@@ -107,16 +109,19 @@ mod tests {
 
     #[test]
     fn each_refusal_has_a_case() {
-        let shapes: BTreeSet<Multiplicities> = refusals::shapes().into_iter().chain(factory::shapes()).collect();
+        let shapes = [refusals::shapes(), factory::shapes(), placings::shapes()].concat();
+        let shapes: BTreeSet<Multiplicities> = shapes.into_iter().collect();
         let shelf = Shelf { nets: shapes.into_iter().map(|v| (v, Net::of(v))).collect() };
         let points = points::text(&refusals::scenes(&shelf), &shelf);
         let live = live::text(&refusals::live_scenes(&shelf), &shelf);
-        let cases: [(String, &[u8]); 5] = [
+        let placings = placings::text(&placings::scenes(&shelf), &shelf);
+        let cases: [(String, &[u8]); 6] = [
             (builds::text(), &[1, 2, 4]),
             (factory::text(&shelf), &[4]),
             (loads::text(), &[5, 6, 7, 8, 16, 9]),
             (points, &[21, 22, 4, 9, 10, 11, 12, 13, 23]),
             (live, &[21, 22, 4, 9, 10, 11, 15, 12, 13, 23]),
+            (placings, &[21, 22, 10, 11, 12, 17, 15, 4, 9, 13, 23]),
         ];
         for (text, numbers) in cases {
             assert!(numbers.iter().all(|&number| has_refusal(&text, number)));

@@ -26,7 +26,7 @@ pub fn shapes() -> Vec<Multiplicities> {
 }
 
 /// Whether the block has a gap, and whether the net is damaged.
-const KINDS: [(bool, bool); 4] = [(false, false), (true, false), (false, true), (true, true)];
+pub const KINDS: [(bool, bool); 4] = [(false, false), (true, false), (false, true), (true, true)];
 
 pub fn scenes(shelf: &Shelf) -> Vec<Scene> {
     Vec::from(KINDS.map(|(has_gap, is_damaged)| scene(has_gap, is_damaged, shelf)))
@@ -38,7 +38,7 @@ pub fn live_scenes(shelf: &Shelf) -> Vec<Scene> {
 
 /// The pairs of checks, each also with itself, that have 13 exactly where the block has a gap, and 23 exactly
 /// where the net is damaged; the earlier one is first.
-fn pairs(checks: &[u8], has_gap: bool, is_damaged: bool) -> Vec<[u8; 2]> {
+pub fn pairs(checks: &[u8], has_gap: bool, is_damaged: bool) -> Vec<[u8; 2]> {
     let all = (0..checks.len()).flat_map(|i| checks[i..].iter().map(move |&later| [checks[i], later]));
     all.filter(|p| p.contains(&13) == has_gap && p.contains(&23) == is_damaged).collect()
 }
@@ -47,7 +47,7 @@ fn pairs(checks: &[u8], has_gap: bool, is_damaged: bool) -> Vec<[u8; 2]> {
 type PointAt = fn(u32) -> [u32; 3];
 
 /// The lowest point inside.
-fn inside(divisor: u32) -> [u32; 3] {
+pub fn inside(divisor: u32) -> [u32; 3] {
     net().extents().map(|e| (e as u32 - 1).saturating_mul(divisor))
 }
 
@@ -58,7 +58,7 @@ fn far(divisor: u32) -> [u32; 3] {
 }
 
 /// A scene without cases.
-fn setting(has_gap: bool, is_damaged: bool) -> Scene {
+pub fn setting(has_gap: bool, is_damaged: bool) -> Scene {
     let sizes = Sizes::new(SIZES).expect("within the limits");
     let mut scene = Scene::new(net(), Block::random(sizes, &mut Random::new(2)));
     if has_gap {
@@ -107,13 +107,13 @@ fn live_scene(has_gap: bool, is_damaged: bool, shelf: &Shelf) -> Scene {
     scene
 }
 
-fn assert_refused<T: Debug>(pair: [u8; 2], answer: Result<T, Refusal>) {
+pub fn assert_refused<T: Debug>(pair: [u8; 2], answer: Result<T, Refusal>) {
     let refusal = answer.expect_err("a fault is refused");
     assert_eq!(refusal.number, pair[0], "the earlier of {pair:?}");
 }
 
 /// The call that would be answered but for the scene's gap and damage, with the faults of the pair.
-fn cases(scene: &Scene, pair: [u8; 2], point_at: PointAt) -> Vec<Case> {
+pub fn cases(scene: &Scene, pair: [u8; 2], point_at: PointAt) -> Vec<Case> {
     let sound = scene.case(point_at(DIVISOR), DIVISOR);
     let first: Vec<Case> = with_fault(sound, pair[0], point_at);
     if pair[0] == pair[1] {

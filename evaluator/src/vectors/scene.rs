@@ -120,15 +120,19 @@ impl Scene {
     pub fn answer(&self, case: &Case, lent_numbers: &[u32]) -> Exact {
         let call = self.call(case);
         let answer = lent::answer(&call, &slice(lent_numbers, call.net_length));
-        if self.changes.is_empty() && call.unit.net().is_none_or(|v| v == self.net) {
+        if self.lends_net_of(&call.unit) {
             assert_eq!(answer, point::answer(&call), "the net and the recurrence agree");
         }
         answer
     }
 
-    /// What is lent, then what is made of each case: its number, the case and its exact answer are handed on.
-    pub fn text(&self, shelf: &Shelf, lines: impl Fn(usize, &Case, Exact) -> String) -> String {
-        let lent_numbers = self.lent_numbers(shelf);
+    /// Whether the lent numbers are those of the unit's own net, where it has one.
+    pub fn lends_net_of(&self, unit: &Unit) -> bool {
+        self.changes.is_empty() && unit.net().is_none_or(|v| v == self.net)
+    }
+
+    /// What is lent.
+    pub fn lent_text(&self) -> String {
         let mut text = format!("net {}\n", join(self.net.counts()));
         for (index, number) in &self.changes {
             text.push_str(&format!("set {index} {number}\n"));
@@ -136,6 +140,13 @@ impl Scene {
         text.push_str("block\n");
         text.push_str(&number_lines("c", &self.block.corrections));
         text.push_str(&number_lines("u", &self.block.uncertainties));
+        text
+    }
+
+    /// What is lent, then what is made of each case: its number, the case and its exact answer are handed on.
+    pub fn text(&self, shelf: &Shelf, lines: impl Fn(usize, &Case, Exact) -> String) -> String {
+        let lent_numbers = self.lent_numbers(shelf);
+        let mut text = self.lent_text();
         for (number, case) in self.cases.iter().enumerate() {
             text.push_str(&lines(number, case, self.answer(case, &lent_numbers)));
         }

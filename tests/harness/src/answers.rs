@@ -1,14 +1,16 @@
 //! The evaluator's units and answers as the records of the C interface.
 
-use crate::torskavel::{LivePointAnswer, PointAnswer, Unit as Record, UnitAnswer};
+use crate::torskavel::{self, LivePointAnswer, PlacingAnswer, PointAnswer, Unit as Record, UnitAnswer};
 use evaluator::field::Block;
 use evaluator::live::Floats;
+use evaluator::placing::Placing;
 use evaluator::point::Fraction;
 use evaluator::unit::{Refusal, Unit};
 use std::fmt;
 
 pub type Changed = Result<Unit, Refusal>;
 pub type Loaded = Result<(Unit, Block), Refusal>;
+pub type Placed = Result<Placing, Refusal>;
 pub type Answered = Result<Fraction, Refusal>;
 pub type LiveAnswered = Result<Floats, Refusal>;
 
@@ -69,6 +71,18 @@ impl fmt::Display for Handed {
 /// Number and place of an answer.
 fn outcome<T>(answered: &Result<T, Refusal>) -> (u32, usize) {
     answered.as_ref().err().map_or((0, 0), |refusal| (refusal.number.into(), refusal.place))
+}
+
+pub fn placing_record(placing: &Placing) -> torskavel::Placing {
+    let Placing { cell: [k1, k2, k3], order: [p, r, s], weights: [l0, l1, l2, l3] } = *placing;
+    torskavel::Placing { k1, k2, k3, p, r, s, l0, l1, l2, l3 }
+}
+
+/// A refused call answers zeros.
+pub fn placing_answer(placed: &Placed) -> PlacingAnswer {
+    let (number, place) = outcome(placed);
+    let zeros = Placing { cell: [0; 3], order: [0; 3], weights: [0; 4] };
+    PlacingAnswer { number, place, placing: placing_record(&placed.unwrap_or(zeros)) }
 }
 
 /// A refused call answers zeros.

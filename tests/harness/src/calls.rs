@@ -3,6 +3,7 @@
 use crate::Outcome;
 use crate::answers::{Answered, Changed, Handed, Loaded, point_answer};
 use crate::guard::Lent;
+use crate::loan::{Loan, Slices};
 use crate::torskavel::{self, PointAnswer};
 use evaluator::formats::join;
 use evaluator::point::Call;
@@ -26,7 +27,7 @@ pub fn expect<T: PartialEq + Debug>(expected: T, answer: T) -> Outcome {
 }
 
 /// Numbers for a reader: all of a few, else the first of them, and the count and the digest of the others as text.
-fn brief<T: ToString>(numbers: &[T]) -> String {
+pub fn brief<T: ToString>(numbers: &[T]) -> String {
     const SHOWN: usize = 64;
     let words: Vec<String> = numbers.iter().map(T::to_string).collect();
     let (shown, rest) = words.split_at(words.len().min(SHOWN));
@@ -152,23 +153,15 @@ impl Load<'_> {
 }
 
 pub struct Point<'a> {
-    pub unit: Handed,
-    /// The net slice, and what it is for a reader.
-    pub net: &'a [u32],
-    pub told: String,
-    pub corrections: &'a [i16],
-    pub uncertainties: &'a [u16],
+    pub loan: Loan<'a>,
     pub coordinates: [u32; 3],
     pub divisor: u32,
 }
 
 impl fmt::Display for Point<'_> {
     fn fmt(&self, f: &mut fmt::Formatter) -> fmt::Result {
-        let Point { unit, net, told, corrections, uncertainties, coordinates, divisor } = self;
-        write!(f, "answer unit {unit} point {} over {divisor}, ", join(coordinates))?;
-        write!(f, "net slice of {} lent {told}, ", net.len())?;
-        write!(f, "corrections of {} {}, ", corrections.len(), brief(corrections))?;
-        write!(f, "uncertainties of {} {}", uncertainties.len(), brief(uncertainties))
+        let Point { loan, coordinates, divisor } = self;
+        write!(f, "answer unit {} point {} over {divisor}, {loan}", loan.unit, join(coordinates))
     }
 }
 
@@ -179,40 +172,19 @@ impl Point<'_> {
 
     /// What the evaluator is handed, the net apart.
     pub fn evaluated(&self) -> Call<'_> {
-        let Point { unit, net, corrections, uncertainties, coordinates, divisor, .. } = *self;
+        let Point { loan: Loan { unit, net, corrections, uncertainties, .. }, coordinates, divisor } = *self;
         Call { unit: unit.unit, net_length: net.len(), corrections, uncertainties, coordinates, divisor }
     }
 
     fn call(&self, expected: &Answered) -> Outcome {
-        let lent = LentPoint::of(self);
-        expect(point_answer(expected), lent.answer(self))?;
-        lent.kept()
-    }
-}
-
-/// The slices of a point call.
-pub struct LentPoint {
-    pub net: Lent<u32>,
-    pub corrections: Lent<i16>,
-    pub uncertainties: Lent<u16>,
-}
-
-impl LentPoint {
-    pub fn of(point: &Point) -> LentPoint {
-        let net = Lent::of("net", point.net);
-        let corrections = Lent::of("corrections", point.corrections);
-        LentPoint { net, corrections, uncertainties: Lent::of("uncertainties", point.uncertainties) }
+        let slices = Slices::of(&self.loan);
+        expect(point_answer(expected), self.answer(&slices))?;
+        slices.kept()
     }
 
-    /// The exact call.
-    pub fn answer(&self, point: &Point) -> PointAnswer {
-        let (net, c, u) = (self.net.slice(), self.corrections.slice(), self.uncertainties.slice());
-        torskavel::answer(point.unit.record(), net, c, u, point.coordinates, point.divisor)
-    }
-
-    pub fn kept(&self) -> Outcome {
-        self.net.kept()?;
-        self.corrections.kept()?;
-        self.uncertainties.kept()
+    /// The exact call over these slices.
+    pub fn answer(&self, slices: &Slices) -> PointAnswer {
+        let (net, c, u) = slices.all();
+        torskavel::answer(self.loan.unit.record(), net, c, u, self.coordinates, self.divisor)
     }
 }

@@ -3,7 +3,8 @@
 
 use crate::Outcome;
 use crate::answers::{LiveAnswered, LiveBits};
-use crate::calls::{LentPoint, Point, expect, run};
+use crate::calls::{Point, expect, run};
+use crate::loan::Slices;
 use crate::torskavel::calls::torskavel_live_answer;
 use crate::torskavel::{LivePointAnswer, PointAnswer};
 use std::fmt;
@@ -29,18 +30,20 @@ impl Live<'_> {
     }
 
     fn call(&self, expected: &LiveAnswered) -> Outcome {
-        let lent = LentPoint::of(self.point);
-        let bits = self.answer(&lent);
+        let slices = Slices::of(&self.point.loan);
+        let bits = self.answer(&slices);
         expect(LiveBits::from(expected), bits)?;
-        lent.kept()?;
-        self.agrees(bits, lent.answer(self.point)).map_err(|failure| format!("the exact call: {failure}"))
+        slices.kept()?;
+        let exact = self.point.answer(&slices);
+        agrees(bits, exact, self.flag, &AFTER_15).map_err(|failure| format!("the exact call: {failure}"))
     }
 
-    fn answer(&self, lent: &LentPoint) -> LiveBits {
-        let Point { unit, coordinates: [x, y, z], divisor, .. } = *self.point;
-        let (net, c, u) = (lent.net.slice(), lent.corrections.slice(), lent.uncertainties.slice());
+    /// The live call over these slices.
+    pub fn answer(&self, slices: &Slices) -> LiveBits {
+        let Point { loan, coordinates: [x, y, z], divisor } = *self.point;
+        let (net, c, u) = slices.all();
         let (n_length, c_length, u_length) = (net.len(), c.len(), u.len());
-        let (unit, net, c, u) = (unit.record(), net.as_ptr(), c.as_ptr(), u.as_ptr());
+        let (unit, net, c, u) = (loan.unit.record(), net.as_ptr(), c.as_ptr(), u.as_ptr());
         // Safety: the pointers and lengths are of slices that live until the call returns. The safe function
         // hands in 0 or 1 alone.
         let answer = unsafe {
@@ -48,15 +51,16 @@ impl Live<'_> {
         };
         answer.into()
     }
+}
 
-    /// The exact call answers the same numbers, or refuses alike; where 15 applies, no earlier check does.
-    fn agrees(&self, live: LiveBits, exact: PointAnswer) -> Outcome {
-        if live.number == 15 {
-            let number = exact.number;
-            return AFTER_15.contains(&number).then_some(()).ok_or(format!("15 here, and {number} there"));
-        }
-        let PointAnswer { number, place, numerator, uncertainty, .. } = exact;
-        let uncertainty = if self.flag == 0 { 0.0 } else { uncertainty as f64 };
-        expect(LivePointAnswer { number, place, numerator: numerator as f64, uncertainty }.into(), live)
+/// The exact call answers the same numbers, or refuses alike; where 15 applies, no earlier check does: `after_15` are
+/// the numbers that the exact call can then answer.
+pub fn agrees(live: LiveBits, exact: PointAnswer, flag: u8, after_15: &[u32]) -> Outcome {
+    if live.number == 15 {
+        let number = exact.number;
+        return after_15.contains(&number).then_some(()).ok_or(format!("15 here, and {number} there"));
     }
+    let PointAnswer { number, place, numerator, uncertainty, .. } = exact;
+    let uncertainty = if flag == 0 { 0.0 } else { uncertainty as f64 };
+    expect(LivePointAnswer { number, place, numerator: numerator as f64, uncertainty }.into(), live)
 }

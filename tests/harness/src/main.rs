@@ -1,11 +1,15 @@
-//! Runs the archive of the C interface on the stored vectors and on random calls, and compares every answer and every lent
-//! slice with the evaluator's numbers. With `--trace` it prints each case before the call.
+//! Runs the archive of the C interface on the stored vectors, on all placings of small units and on random calls, and
+//! compares every answer and every lent slice with the evaluator's numbers. With `--trace` it prints each case before the
+//! call, of a small unit's placings only the unit.
 
 mod answers;
 mod calls;
+mod exhaustive;
 mod factory;
 mod guard;
 mod live;
+mod loan;
+mod placings;
 mod random;
 mod report;
 mod shelf;
@@ -13,6 +17,7 @@ mod stored;
 mod threads;
 #[path = "../../../include/torskavel.rs"]
 mod torskavel;
+mod two_calls;
 
 use answers::Handed;
 use evaluator::calls::factory_shape;
@@ -20,7 +25,7 @@ use evaluator::net::Net;
 use evaluator::unit::Unit;
 use random::points::{self, Asked, Spread};
 use random::{builds, inspections, loads};
-use report::{ANSWER, BUILD, FACTORY, INSPECT, LIVE, LOAD, Report, Tally};
+use report::{ANSWER, BUILD, FACTORY, INSPECT, Kind, LIVE, LIVE_VALUE, LOAD, PLACE, Report, Tally, VALUE};
 use shelf::Shelf;
 use std::process::ExitCode;
 use std::sync::atomic::Ordering;
@@ -43,6 +48,43 @@ fn stored_vectors(report: &mut Report) -> Outcome<Shelf> {
     report.group(LIVE, "vectors/live.txt", |tally| stored::live::run(&shelf, tally))?;
     report.group(LIVE, "vectors/points.txt, asked live", |tally| stored::live::points(&shelf, tally))?;
     Ok(shelf)
+}
+
+/// What is asked of points and placings by the placing call and by each valuing call.
+const IN_TWO_CALLS: [(Kind, Asked, two_calls::Asked); 3] = [
+    (PLACE, Asked::Exact, two_calls::place),
+    (VALUE, Asked::Exact, two_calls::value),
+    (LIVE_VALUE, Asked::Live, two_calls::live_value),
+];
+
+fn stored_placings(shelf: &Shelf, report: &mut Report) -> Outcome {
+    use stored::placings::{live_points, live_value, place, points, value};
+    report.group(PLACE, "vectors/placings.txt, place", place)?;
+    report.group(VALUE, "vectors/placings.txt, value", |tally| value(shelf, tally))?;
+    report.group(LIVE_VALUE, "vectors/placings.txt, live value", |tally| live_value(shelf, tally))?;
+    for (kind, _, asked) in IN_TWO_CALLS {
+        let title = format!("vectors/points.txt, {} in two calls", kind.name);
+        report.group(kind, &title, |tally| points(asked, shelf, tally))?;
+    }
+    report.group(LIVE_VALUE, "vectors/live.txt, live value in two calls", |tally| live_points(shelf, tally))
+}
+
+/// Small units throughout, then random calls from the seeds after `seed`.
+fn placings(mut seed: u64, shelf: &Shelf, report: &mut Report) -> Outcome {
+    report.group(PLACE, "every point of small units", |tally| exhaustive::place(shelf, tally))?;
+    report.group(VALUE, "every placing of small numbers, value", |tally| exhaustive::value(shelf, tally))?;
+    let title = "every placing of small numbers, live value";
+    report.group(LIVE_VALUE, title, |tally| exhaustive::live_value(shelf, tally))?;
+    let mut group = |kind: Kind, title: &str, run: &mut dyn FnMut(u64, &mut Tally) -> Outcome| {
+        seed += 1;
+        report.group(kind, &format!("random {title}, seed {seed}"), |tally| run(seed, tally))
+    };
+    for (kind, of, asked) in IN_TWO_CALLS {
+        let title = format!("points, {} in two calls", kind.name);
+        group(kind, &title, &mut |seed, tally| points::in_two_calls(of, asked, seed, 6000, shelf, tally))?;
+    }
+    group(VALUE, "placings", &mut |seed, tally| points::valued(Asked::Exact, seed, 6000, shelf, tally))?;
+    group(LIVE_VALUE, "live placings", &mut |seed, tally| points::valued(Asked::Live, seed, 6000, shelf, tally))
 }
 
 fn random_calls(shelf: &Shelf, report: &mut Report) -> Outcome {
@@ -111,6 +153,8 @@ fn run() -> Outcome {
     random_points(Asked::Exact, 4, &shelf, &mut report)?;
     random_points(Asked::Live, 9, &shelf, &mut report)?;
     factory_calls(14, &shelf, &mut report)?;
+    stored_placings(&shelf, &mut report)?;
+    placings(21, &shelf, &mut report)?;
     report.finish()
 }
 

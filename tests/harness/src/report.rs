@@ -44,6 +44,11 @@ pub const INSPECT: Kind = Kind { name: "inspect", numbers: &[0, 3, 4, 14] };
 pub const LOAD: Kind = Kind { name: "load", numbers: &[0, 5, 6, 7, 8, 16, 9] };
 pub const ANSWER: Kind = Kind { name: "answer", numbers: &[0, 21, 22, 4, 9, 10, 11, 12, 13, 23] };
 pub const LIVE: Kind = Kind { name: "live", numbers: &[0, 21, 22, 4, 9, 10, 11, 15, 12, 13, 23] };
+pub const PLACE: Kind = Kind { name: "place", numbers: &[0, 21, 22, 10, 11, 12] };
+pub const VALUE: Kind = Kind { name: "value", numbers: &[0, 21, 22, 17, 4, 9, 13, 23] };
+pub const LIVE_VALUE: Kind = Kind { name: "live value", numbers: &[0, 21, 22, 17, 15, 4, 9, 13, 23] };
+
+const KINDS: [Kind; 9] = [BUILD, FACTORY, INSPECT, LOAD, ANSWER, LIVE, PLACE, VALUE, LIVE_VALUE];
 
 /// The tallies of all groups of cases, by call.
 #[derive(Default)]
@@ -66,7 +71,7 @@ impl Report {
 
     /// Prints the sums, and fails where a number of a call was never answered.
     pub fn finish(&self) -> Outcome {
-        for Kind { name, numbers } in [BUILD, FACTORY, INSPECT, LOAD, ANSWER, LIVE] {
+        for Kind { name, numbers } in KINDS {
             let tally = self.0.get(name).ok_or(format!("{name} was never called"))?;
             println!("all of {name}: {tally}");
             if let Some(number) = numbers.iter().find(|number| !tally.0.contains_key(number)) {

@@ -1,4 +1,5 @@
-//! The exact and the live answer at a point, with the same checks in several shapes.
+//! A point's placing, and the exact and the live answer at a point and at a placing, with the same checks in
+//! several shapes.
 
 mod bernstein;
 mod checks;
@@ -8,16 +9,18 @@ mod outermost;
 mod packed;
 mod paired;
 mod place;
+mod possible;
 mod straight;
 mod window;
 
 use super::Refusal;
 use super::shape::Shape;
 use bernstein::{Blended, Exact};
+use checks::Checked;
 use live::{Nested, Straight};
 use place::Placing;
 
-pub use checks::Call;
+pub use checks::{Call, Valuing, placed as place};
 pub use live::Floats;
 
 /// N and U over m!×D^m.
@@ -45,38 +48,45 @@ pub trait Sums {
     ) -> Result<Self::Answer, Refusal>;
 }
 
-pub type Answer = fn(&Call) -> Result<Fraction, Refusal>;
-/// Whether the uncertainty is wanted is told besides.
-pub type LiveAnswer = fn(&Call, bool) -> Result<Floats, Refusal>;
+/// An exact call, at a point or at a placing.
+pub type Answer<C> = fn(&C) -> Result<Fraction, Refusal>;
+/// A live one; whether the uncertainty is wanted is told besides.
+pub type LiveAnswer<C> = fn(&C, bool) -> Result<Floats, Refusal>;
 
 /// Straight from the specification.
-pub fn answer(call: &Call) -> Result<Fraction, Refusal> {
+pub fn answer<'a>(call: &impl Checked<'a>) -> Result<Fraction, Refusal> {
     straight::answer(call, &Exact)
 }
 
 /// Straight from the specification.
-pub fn live_answer(call: &Call, with_uncertainty: bool) -> Result<Floats, Refusal> {
+pub fn live_answer<'a>(call: &impl Checked<'a>, with_uncertainty: bool) -> Result<Floats, Refusal> {
     straight::answer(call, &Straight { with_uncertainty })
 }
 
 /// Those tuned after a look at where the time goes. Which is the fastest depends on the net.
-pub const TUNED: [(&str, Answer); 4] = [
-    ("tables", |call| listed::answer(call, &Exact)),
-    ("window outermost", |call| outermost::answer(call, &Exact)),
-    ("packed", |call| packed::answer(call, &Exact)),
-    ("one multiplication", |call| paired::answer(call, &Exact)),
-];
+pub const SHAPES: [&str; 4] = ["tables", "window outermost", "packed", "one multiplication"];
+
+pub fn tuned<'a, C: Checked<'a>>() -> [Answer<C>; 4] {
+    [
+        |call| listed::answer(call, &Exact),
+        |call| outermost::answer(call, &Exact),
+        |call| packed::answer(call, &Exact),
+        |call| paired::answer(call, &Exact),
+    ]
+}
 
 /// The same shapes with sums of floats.
-pub const LIVE_TUNED: [(&str, LiveAnswer); 4] = [
-    ("tables", |call, with_uncertainty| listed::answer(call, &Nested { with_uncertainty })),
-    ("window outermost", live_outermost),
-    ("packed", |call, with_uncertainty| packed::answer(call, &Nested { with_uncertainty })),
-    ("one multiplication", |call, with_uncertainty| paired::answer(call, &Nested { with_uncertainty })),
-];
+pub fn live_tuned<'a, C: Checked<'a>>() -> [LiveAnswer<C>; 4] {
+    [
+        |call, with_uncertainty| listed::answer(call, &Nested { with_uncertainty }),
+        live_outermost,
+        |call, with_uncertainty| packed::answer(call, &Nested { with_uncertainty }),
+        |call, with_uncertainty| paired::answer(call, &Nested { with_uncertainty }),
+    ]
+}
 
 /// The uncertainties are blended only where they are wanted.
-fn live_outermost(call: &Call, with_uncertainty: bool) -> Result<Floats, Refusal> {
+fn live_outermost<'a>(call: &impl Checked<'a>, with_uncertainty: bool) -> Result<Floats, Refusal> {
     let by = &Nested { with_uncertainty };
     if with_uncertainty { outermost::answer(call, by) } else { outermost::answer_by_corrections(call, by) }
 }

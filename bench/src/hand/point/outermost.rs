@@ -2,7 +2,7 @@
 //! four that are all 0 are left out by one look; one by one, the processor seems to guess wrong too often.
 
 use super::bernstein::Blended;
-use super::checks::{Call, checked};
+use super::checks::Checked;
 use super::window::Entry;
 use super::{Refusal, Sums};
 
@@ -42,23 +42,23 @@ impl Summed for Corrections {
     }
 }
 
-pub fn answer<S: Sums>(call: &Call, by: &S) -> Result<S::Answer, Refusal> {
+pub fn answer<'a, S: Sums>(call: &impl Checked<'a>, by: &S) -> Result<S::Answer, Refusal> {
     answer_from::<Blended, S>(call, by)
 }
 
 /// With 0 for every blended uncertainty.
-pub fn answer_by_corrections<S: Sums>(call: &Call, by: &S) -> Result<S::Answer, Refusal> {
+pub fn answer_by_corrections<'a, S: Sums>(call: &impl Checked<'a>, by: &S) -> Result<S::Answer, Refusal> {
     answer_from::<Corrections, S>(call, by)
 }
 
-fn answer_from<T: Summed, S: Sums>(call: &Call, by: &S) -> Result<S::Answer, Refusal> {
-    let (window, placing) = checked::<S>(call)?;
+fn answer_from<'a, T: Summed, S: Sums>(call: &impl Checked<'a>, by: &S) -> Result<S::Answer, Refusal> {
+    let (window, placing) = call.checked::<S>()?;
     let mut offsets = placing.local_places(&window.shape);
     // The places that fill up the last four have sums that nobody looks at.
     offsets.resize(offsets.len().next_multiple_of(AT_A_TIME), 0);
     let (offsets, _) = offsets.as_chunks::<AT_A_TIME>();
     let mut sums = vec![[T::default(); AT_A_TIME]; offsets.len()];
-    window.each(|entry| add(&entry, &call.net[entry.base..], offsets, &mut sums));
+    window.each(|entry| add(&entry, &window.net[entry.base..], offsets, &mut sums));
     let mut next = sums.as_flattened().iter();
     by.value(&window.shape, &placing, |_| next.next().expect("there are sums for each local place").blended())
 }

@@ -5,7 +5,7 @@
 //! word became.
 
 use super::bernstein::Blended;
-use super::checks::{Call, checked};
+use super::checks::Checked;
 use super::place::Placing;
 use super::window::Window;
 use super::{Refusal, Sums};
@@ -13,8 +13,8 @@ use super::{Refusal, Sums};
 /// With a share above m! the shares add up to more, and 23 applies.
 const TOO_MUCH: Blended = Blended { shares: u64::MAX, correction: 0, uncertainty: 0 };
 
-pub fn answer<S: Sums>(call: &Call, by: &S) -> Result<S::Answer, Refusal> {
-    let (window, placing) = checked::<S>(call)?;
+pub fn answer<'a, S: Sums>(call: &impl Checked<'a>, by: &S) -> Result<S::Answer, Refusal> {
+    let (window, placing) = call.checked::<S>()?;
     if window.shape.degree <= 5 { three(&window, &placing, by) } else { two(&window, &placing, by) }
 }
 

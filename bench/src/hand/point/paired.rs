@@ -2,13 +2,13 @@
 //! multiplied once. The sum of shares stands apart; where it is m!, the two others stay within their bits.
 
 use super::bernstein::Blended;
-use super::checks::{Call, checked};
+use super::checks::Checked;
 use super::place::Placing;
 use super::window::Window;
 use super::{Refusal, Sums};
 
-pub fn answer<S: Sums>(call: &Call, by: &S) -> Result<S::Answer, Refusal> {
-    let (window, placing) = checked::<S>(call)?;
+pub fn answer<'a, S: Sums>(call: &impl Checked<'a>, by: &S) -> Result<S::Answer, Refusal> {
+    let (window, placing) = call.checked::<S>()?;
     if window.shape.degree <= 8 {
         in_64_bits(&window, &placing, by)
     } else {

@@ -2,8 +2,9 @@
 
 use crate::hand::shape::Shape;
 use crate::hand::{Refusal, refuse};
+use crate::torskavel;
 
-const LARGEST_DIVISOR: u32 = 4096;
+pub const LARGEST_DIVISOR: u32 = 4096;
 const LARGEST_DENOMINATOR: u64 = 1 << 48;
 /// Those of degree 9.
 const MOST_LOCAL_PLACES: usize = 220;
@@ -38,6 +39,16 @@ impl Placing {
             }
         }
         list
+    }
+}
+
+/// As the calls hand it on; no number is above those of a coordinate.
+impl From<Placing> for torskavel::Placing {
+    fn from(placing: Placing) -> torskavel::Placing {
+        let [k1, k2, k3] = placing.cell.map(|k| k as u32);
+        let [p, r, s] = placing.axes.map(|axis| axis as u8 + 1);
+        let [l0, l1, l2, l3] = placing.weights.map(|weight| weight as u32);
+        torskavel::Placing { k1, k2, k3, p, r, s, l0, l1, l2, l3 }
     }
 }
 

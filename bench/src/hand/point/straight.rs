@@ -1,12 +1,12 @@
 //! The window gone through in the block at each local place.
 
 use super::bernstein::Blended;
-use super::checks::{Call, checked};
+use super::checks::Checked;
 use super::window::Window;
 use super::{Refusal, Sums};
 
-pub fn answer<S: Sums>(call: &Call, by: &S) -> Result<S::Answer, Refusal> {
-    let (window, placing) = checked::<S>(call)?;
+pub fn answer<'a, S: Sums>(call: &impl Checked<'a>, by: &S) -> Result<S::Answer, Refusal> {
+    let (window, placing) = call.checked::<S>()?;
     by.value(&window.shape, &placing, |local| blend(&window, local))
 }
 

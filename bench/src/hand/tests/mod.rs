@@ -5,6 +5,7 @@ mod builds;
 mod factory;
 mod inspections;
 mod loads;
+mod placings;
 mod points;
 
 use crate::torskavel::Unit;

@@ -1,6 +1,7 @@
 use super::{pick, random_unit};
-use crate::hand::point::LiveAnswer;
-use crate::hand::{Call, Fraction, LIVE_TUNED, Refusal, TUNED, answer, defined_order, live_answer};
+use crate::hand::{
+    Call, Fraction, LiveAnswer, Refusal, SHAPES, answer, defined_order, live_answer, live_tuned, tuned,
+};
 use crate::torskavel::{self, Unit};
 use evaluator::random::Random;
 use std::collections::BTreeSet;
@@ -29,7 +30,8 @@ fn agreed_live(call: &Call, on: bool) -> u32 {
         0 => Ok([library.numerator.to_bits(), library.uncertainty.to_bits()]),
         number => Err(Refusal { number, place: library.place }),
     };
-    for (shape, live) in [("straight", live_answer as LiveAnswer)].into_iter().chain(LIVE_TUNED) {
+    let straight = ("straight", live_answer as LiveAnswer<Call>);
+    for (shape, live) in [straight].into_iter().chain(SHAPES.into_iter().zip(live_tuned())) {
         let bits = live(call, on).map(|floats| floats.bits());
         assert_eq!(bits, expected, "{shape} {unit:?} {coordinates:?} {divisor} {on}");
     }
@@ -45,7 +47,7 @@ fn agreed_exact(call: &Call) -> u32 {
         number => Err(Refusal { number, place: library.place }),
     };
     assert_eq!(answer(call), expected, "{unit:?} {coordinates:?} {divisor}");
-    for (shape, tuned) in TUNED {
+    for (shape, tuned) in SHAPES.into_iter().zip(tuned()) {
         assert_eq!(tuned(call), expected, "{shape} {unit:?} {coordinates:?} {divisor}");
     }
     library.number

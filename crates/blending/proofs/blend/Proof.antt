@@ -5,12 +5,11 @@ use native.Mathlib.Omega.{arith}
 use borrow.Author.Needs.{needs}
 use lib.ListN.{length}
 use denote.Ref.{now}
-use Rattle.unit.proofs.Checks.{then-passed}
 use Rattle.unit.specs.Unit.{netOf}
 use Rattle.unit.specs.declared.Checked.{Checked}
 use Rattle.unit.specs.declared.Checked.the-variants.{Passed}
 use Rattle.unit.specs.declared.Refusal.{Refusal}
-use Rattle.placing.proofs.Placed.{Lent, lent, place-placed, place-refused, point-accepted}
+use Rattle.placing.proofs.Placed.{Lent, lent, place-placed, place-refused, point-accepted, unit-passed}
 use Rattle.placing.specs.Place.{lentChecks, placeAnswer, pointChecks, unitChecks}
 use Rattle.placing.specs.Placing.{placing, sizes}
 use Rattle.placing.specs.declared.Placing.{Placing}
@@ -38,9 +37,8 @@ module _ (c : tie.After-enum-told) where
       (length (now (a .uncertainties))))
   held = lent _ _ _ _ passed
 
-  unit-passed : unitChecks (start .args .unit) ≡ Passed
-  unfolding lentChecks
-  unit-passed = then-passed (unitChecks (start .args .unit)) _ passed .0
+  unit-is : unitChecks (start .args .unit) ≡ Passed
+  unit-is = unit-passed _ _ _ _ passed
 
 -- the placing call's answer
 place-is : (c : tie.After-place) → (let a = start (c .before) .args in
@@ -53,7 +51,7 @@ point-placed : (c : tie.After-known-told2) → (let a = start (c .before .before
 point-placed c =
     let t = c .before .before .before .before in
     let a = start t .args in
-    place-placed (a .unit) (a .x) (a .y) (a .z) (a .divisor) (unit-passed t)
+    place-placed (a .unit) (a .x) (a .y) (a .z) (a .divisor) (unit-is t)
     (sym (place-is (c .before .before .before)) ∙ c .before .placed .given .1)
 
 -- all checks together come to what the blending at the placing answered
@@ -108,7 +106,7 @@ returns-2 : tie.Need-returns-2
 returns-2 c =
     let t = c .before .before .before in
     let a = start t .args in
-    let e = place-refused (a .unit) (a .x) (a .y) (a .z) (a .divisor) (unit-passed t)
+    let e = place-refused (a .unit) (a .x) (a .y) (a .z) (a .divisor) (unit-is t)
     (sym (place-is (c .before .before)) ∙ c .enum-told2 .given .1) in
     let refused =
     blend-refused (a .unit) (now (a .net)) (now (a .corrections)) (now (a .uncertainties))

@@ -1,10 +1,9 @@
--- Ranks of the axes and weights, as inner functions of this crate, of `blending` and of `point` have them.
+-- Ranks of the axes, as inner functions of this crate and of `blending` have them.
 use mathlib.Core.Bool.{cond}
-use Prim.Native.Nat.{_+_, ℕ}
+use Prim.Native.Nat.{ℕ}
 use lib.Dec.{leb}
 use Rattle.spline.specs.Place.{Axis}
 use Rattle.placing.specs.Placing.{AxisRanks, axisNumber, onAxes, rankAxes}
-use Rattle.placing.specs.declared.Placing.{Placing}
 use Rattle.placing.specs.declared.ranking.Ranking.{Ranking}
 
 -- three axes in order, by their numbers, with their remainders
@@ -24,10 +23,6 @@ ranking u o =
 
 abbrev pub ranked : ℕ → ℕ → ℕ → Ranking
 ranked u1 u2 u3 = ranking (onAxes u1 u2 u3) (rankAxes (onAxes u1 u2 u3))
-
--- D, which the weights add up to
-abbrev pub weightSum : Placing → ℕ
-weightSum q = q .l0 + q .l1 + q .l2 + q .l3
 
 -- the numbers of the three axes, in some order
 pub data Axes : ℕ → ℕ → ℕ → Type 0 where

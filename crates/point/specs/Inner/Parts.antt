@@ -3,9 +3,12 @@ use Prim.Native.Nat.{_*_, _+_, _<_, _≤_, ℕ}
 use lib.IntN.{_*ℤ_, _+ℤ_, natAbs, pos, ℤ}
 use Rattle.sums.specs.Coefficient.{factorial}
 use Rattle.sums.specs.Sum.{sumTo, sumZ}
+use Rattle.placing.specs.Place.{scale}
+use Rattle.placing.specs.Placing.{weightSum}
 use Rattle.placing.specs.declared.Placing.{Placing}
 use Rattle.blending.specs.LocalPlaces.{localPlaces}
 use Rattle.point.specs.Inner.Weights.{weightAt}
+use Rattle.point.specs.declared.Fraction.{Fraction}
 use Rattle.point.specs.declared.bernstein.Part.{Part}
 
 -- a part of N and one of U
@@ -29,6 +32,14 @@ module _ (m : ℕ) (q : Placing) (shift : ℕ → ℤ) (spread : ℕ → ℕ) wh
   -- the parts of all
   abbrev pub partsTo : Part
   partsTo = firstParts (localPlaces m)
+
+  -- and the fraction that they make
+  abbrev pub fractionOf : Fraction
+  fractionOf = record {
+    numerator = partsTo .numerator;
+    uncertainty = partsTo .uncertainty;
+    denominator = scale m (weightSum q);
+  }
 
 -- the sizes of blended numbers where the shares add up
 pub record BlendedSizes (m : ℕ) (shift : ℕ → ℤ) (spread : ℕ → ℕ) : Type 0 where

@@ -15,14 +15,14 @@ const FORMS: &str = "\
 # live HAS-NET V1 V2 V3 V4 HAS-BLOCK N1 N2 N3 NET C U X Y Z D FLAG refused NUMBER PLACE
 ";
 
-const WORDS: &str = "\
+pub const WORDS: &str = "\
 #                      FLAG is a byte, 0 where the uncertainty is switched off; BITS are the 64 bits of N, and of U
 #                      after it, as floats of IEEE 754, in 16 hexadecimal digits, the sign first
 ";
 
-const OFF: u8 = 0;
+pub const OFF: u8 = 0;
 /// By turns.
-const ON: [u8; 4] = [1, 255, 2, 128];
+pub const ON: [u8; 4] = [1, 255, 2, 128];
 
 pub fn shapes() -> Vec<Multiplicities> {
     [limits::shapes(), zeros::shapes(), refusals::shapes(), damage::shapes(), gaps::shapes()].concat()

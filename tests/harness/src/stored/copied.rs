@@ -7,6 +7,7 @@ use crate::Outcome;
 use crate::answers::number;
 use crate::calls::Point;
 use crate::live::Live;
+use crate::loan::Loan;
 use crate::random::factory::{any_unit, copied};
 use crate::report::Tally;
 use crate::shelf::{LentNet, Shelf};
@@ -44,12 +45,11 @@ where
     F: FnOnce(&Point) -> Outcome,
 {
     let v = factory_shape();
-    if point.told != LentNet::defined(v).to_string() {
+    if point.loan.told != LentNet::defined(v).to_string() {
         return Ok(());
     }
-    let length = point.net.len();
+    let length = point.loan.net.len();
     let copy = copied(any_unit(random), length.max(v.places()), shelf, random)?;
-    let (net, told) = (&copy[..length], "a copy".to_string());
-    let Point { unit, corrections, uncertainties, coordinates, divisor, .. } = *point;
-    ask(&Point { unit, net, told, corrections, uncertainties, coordinates, divisor })
+    let loan = Loan { net: &copy[..length], told: "a copy", ..point.loan };
+    ask(&Point { loan, ..*point })
 }

@@ -2,7 +2,7 @@
 
 use super::Words;
 use super::points::each_point;
-use super::scene::each_call;
+use super::scene::each_point_call;
 use crate::Outcome;
 use crate::answers::{LiveAnswered, number};
 use crate::live::Live;
@@ -20,7 +20,7 @@ pub fn run(shelf: &Shelf, tally: &mut Tally) -> Outcome {
 
 /// Hands on each call with its stored answer.
 pub fn each_live(shelf: &Shelf, mut run: impl FnMut(&Live, LiveAnswered) -> Outcome) -> Outcome {
-    each_call("live.txt", "live", shelf, |point, mut words| {
+    each_point_call("live.txt", "live", shelf, |point, mut words| {
         let flag = words.number()?;
         run(&Live { point, flag }, answered(&mut words)?)
     })
@@ -43,7 +43,7 @@ fn bits(words: &mut Words) -> Outcome<u64> {
     u64::from_str_radix(word, 16).map_err(|_| format!("{word} has no bits"))
 }
 
-fn answered(words: &mut Words) -> Outcome<LiveAnswered> {
+pub fn answered(words: &mut Words) -> Outcome<LiveAnswered> {
     match words.word()? {
         "both" => Ok(Ok(Floats::Both { numerator: bits(words)?, uncertainty: bits(words)? })),
         "shift" => Ok(Ok(Floats::Shift(bits(words)?))),

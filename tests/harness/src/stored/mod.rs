@@ -7,6 +7,7 @@ pub mod inspections;
 pub mod live;
 pub mod loads;
 pub mod nets;
+pub mod placings;
 pub mod points;
 mod scene;
 

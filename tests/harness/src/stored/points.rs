@@ -1,7 +1,7 @@
 //! The stored points.
 
 use super::Words;
-use super::scene::each_call;
+use super::scene::each_point_call;
 use crate::Outcome;
 use crate::answers::{Answered, number};
 use crate::calls::Point;
@@ -19,10 +19,10 @@ pub fn run(shelf: &Shelf, tally: &mut Tally) -> Outcome {
 
 /// Hands on each call with its stored answer.
 pub fn each_point(shelf: &Shelf, mut run: impl FnMut(&Point, Answered) -> Outcome) -> Outcome {
-    each_call("points.txt", "point", shelf, |point, mut words| run(point, answered(&mut words)?))
+    each_point_call("points.txt", "point", shelf, |point, mut words| run(point, answered(&mut words)?))
 }
 
-fn answered(words: &mut Words) -> Outcome<Answered> {
+pub fn answered(words: &mut Words) -> Outcome<Answered> {
     match words.word()? {
         "answer" => {
             let (numerator, uncertainty) = (words.number()?, words.number()?);

@@ -5,8 +5,8 @@ use native.Mathlib.Omega.{arith}
 use borrow.Author.Needs.{needs}
 use lib.IntN.{pos}
 use Rattle.sums.specs.Coefficient.{binomial}
-use Rattle.placing.specs.Inner.Ranking.{weightSum}
 use Rattle.placing.specs.Place.{limit}
+use Rattle.placing.specs.Placing.{weightSum}
 use Rattle.point.proofs.Weights as weights
 use Rattle.point.specs.Bernstein.{termWeight}
 use Rattle.point.specs.Inner.Weights.{Tables}

@@ -7,7 +7,7 @@ use Rattle.unit.specs.Unit.{netOf}
 use Rattle.unit.specs.declared.Checked.the-variants.{Passed}
 use Rattle.placing.proofs.Placed.{InRange, equipped, in-range, out-of-range}
 use Rattle.placing.proofs.divisor.check_live.Statement.{statement}
-use Rattle.placing.specs.Place.{divisorChecks, liveCheck, unitChecks}
+use Rattle.placing.specs.Place.{divisorChecks, unitChecks}
 use Rattle.placing.proofs.divisor.check_live.Tie as tie
 
 unit-passed : (c : tie.After-enum-told) → unitChecks (c .before .before .before .args .unit) ≡ Passed
@@ -56,22 +56,21 @@ check-scale-requires c κs =
     let held = equipped _ (unit-passed (c .before .before .before)) in
     (held .net-held, range c .some, range c .few, omega arith, omega arith)
 
-check-scale-requires-2 : tie.Need-check-scale-requires-2
-check-scale-requires-2 c κs =
+check-live-scale-requires : tie.Need-check-live-scale-requires
+check-live-scale-requires c κs =
     let r = range (c .before) in
-    let held = equipped _ (unit-passed (c .before .before .before .before)) in
-    (held .net-held, r .some, r .few, omega arith, omega arith)
+    (equipped _ (unit-passed (c .before .before .before .before)) .net-held, r .some, r .few)
 
 and-then-requires : tie.Need-and-then-requires
 and-then-requires c κs = search needs
 
 returns-3 : tie.Need-returns-3
-unfolding divisorChecks liveCheck
+unfolding divisorChecks
 returns-3 c =
     let p = c .before .before .before in
     simp (unit-passed (p .before .before .before), range p .is)
     (c .and-then .ensures
-    ∙ ap₂ andThen (c .before .before .check-scale .ensures) (c .before .check-scale2 .ensures))
+    ∙ ap₂ andThen (c .before .before .check-scale .ensures) (c .before .check-live-scale .ensures))
 
 pub check-live-spec : {M : Type 1} → statement M
 check-live-spec =
@@ -86,6 +85,6 @@ check-live-spec =
     returns-2
     enum-told-2
     check-scale-requires
-    check-scale-requires-2
+    check-live-scale-requires
     and-then-requires
     returns-3)

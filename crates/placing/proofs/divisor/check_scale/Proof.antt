@@ -1,45 +1,25 @@
--- The test is the definition's own, at the degree of the unit's net.
-use mathlib.Core.Path.{_∙_, _≡_, ap, sym}
-use Prim.Native.Nat.{_≤_, ℕ}
-use native.Mathlib.Omega.{arith}
+-- The test is the definition's own.
+use mathlib.Core.Path.{_∙_, _≡_, sym}
+use Prim.Native.Nat.{ℕ}
 use borrow.Author.Needs.{needs}
 use borrow.Author.Tests.{le-ltb, leb-false, leb-true, lt-ltb, not-false, not-true}
 use lib.Dec.{leb}
 use Rattle.spline.specs.Multiplicities.{degree}
-use Rattle.unit.proofs.Limits.{net-limits}
 use Rattle.unit.specs.Unit.{netOf}
 use Rattle.placing.proofs.divisor.check_scale.Statement.{statement}
 use Rattle.placing.specs.Place.{scale}
 use Rattle.placing.proofs.divisor.check_scale.Tie as tie
 
-degree-is : (c : tie.After-degree-of) → c .degree-of .result ≡ degree (netOf (c .before .before .args .unit))
-degree-is c = c .degree-of .ensures .0 ∙ ap degree (c .before .of-unit .ensures)
-
 -- m!×D^m is compared with the most
-module _ (c : tie.After-scale-allowed) where
-  abbrev start : tie.Start
-  start = c .before .before .before
-
+module _ (c : tie.After-scale-within) where
   abbrev product : ℕ
-  product = scale (degree (netOf (start .args .unit))) (start .args .divisor)
+  product = scale (degree (netOf (c .before .args .unit))) (c .before .args .divisor)
 
-  scale-is : c .scale-allowed .result ≡ leb product (start .args .most)
-  scale-is =
-      c .scale-allowed .ensures
-      ∙ ap (λ (m : ℕ). leb (scale m (start .args .divisor)) (start .args .most)) (degree-is (c .before))
+  scale-is : c .scale-within .result ≡ leb product (c .before .args .most)
+  scale-is = c .scale-within .ensures
 
-of-unit-requires : tie.Need-of-unit-requires
-of-unit-requires c κs = search needs
-
-degree-of-requires : tie.Need-degree-of-requires
-degree-of-requires c κs = search needs
-
-scale-allowed-requires : tie.Need-scale-allowed-requires
-scale-allowed-requires c κs =
-    let s = c .before .before in
-    let u = s .args .unit in
-    let m : degree (netOf u) ≤ 9 = omega (arith, net-limits u (s .pre .0) .limits) in
-    (rw (degree-is c) m, s .pre .1, s .pre .2, s .pre .3, s .pre .4)
+scale-within-requires : tie.Need-scale-within-requires
+scale-within-requires c κs = search needs
 
 stop-requires : tie.Need-stop-requires
 stop-requires c κs = search needs
@@ -57,12 +37,4 @@ returns-2 c =
     simp (le-ltb _ (product a) small)
 
 pub check-scale-spec : {M : Type 1} → statement M
-check-scale-spec =
-    tie.close
-    (tie.spec
-    of-unit-requires
-    degree-of-requires
-    scale-allowed-requires
-    stop-requires
-    returns
-    returns-2)
+check-scale-spec = tie.close (tie.spec scale-within-requires stop-requires returns returns-2)

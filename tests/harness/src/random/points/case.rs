@@ -6,10 +6,12 @@ use crate::Outcome;
 use crate::answers::{Answered, Handed, number};
 use crate::calls::Point;
 use crate::live::Live;
+use crate::loan::Loan;
 use crate::report::Tally;
 use crate::shelf::{LentNet, Shelf};
 use evaluator::field::{Block, NEVER_MEASURED};
 use evaluator::net::Multiplicities;
+use evaluator::placing::Placing;
 use evaluator::point::Call;
 use evaluator::random::Random;
 use evaluator::unit::{Sizes, Unit};
@@ -27,7 +29,7 @@ pub struct Case {
     pub coordinates: [u32; 3],
     pub divisor: u32,
     /// Of a live call, for the uncertainty.
-    flag: Option<u8>,
+    pub flag: Option<u8>,
 }
 
 impl Case {
@@ -36,17 +38,39 @@ impl Case {
     where
         F: Fn(&Call, &[u32]) -> Answered,
     {
-        self.check_over(&self.net.slice(shelf, self.net_length), self.net.to_string(), tally, exact)
+        self.check_over(&self.net.slice(shelf, self.net_length), &self.net.to_string(), tally, exact)
+    }
+
+    /// What the call is lent, over a net slice, which is this for a reader.
+    pub fn loan<'a>(&'a self, net: &'a [u32], told: &'a str) -> Loan<'a> {
+        Loan { unit: self.handed, net, told, corrections: &self.corrections, uncertainties: &self.uncertainties }
+    }
+
+    pub fn point<'a>(&self, loan: Loan<'a>) -> Point<'a> {
+        Point { loan, coordinates: self.coordinates, divisor: self.divisor }
+    }
+
+    /// The axes in the order of their remainders.
+    pub fn axes(&self) -> [usize; 3] {
+        let mut axes = [0, 1, 2];
+        axes.sort_by_key(|&b| (std::cmp::Reverse(self.remainder[b]), b));
+        axes
+    }
+
+    /// That of the point, as it was before any fault of the unit.
+    pub fn placing(&self) -> Placing {
+        let axes = self.axes();
+        let [p, r, s] = axes.map(|b| self.remainder[b]);
+        let (cell, order) = (self.cube.map(|k| k as u32), axes.map(|b| b as u8 + 1));
+        Placing { cell, order, weights: [self.divisor - p, p - r, r - s, s] }
     }
 
     /// Makes the call over a net slice, which is this for a reader.
-    pub fn check_over<F>(&self, net: &[u32], told: String, tally: &mut Tally, exact: F) -> Outcome<u8>
+    pub fn check_over<F>(&self, net: &[u32], told: &str, tally: &mut Tally, exact: F) -> Outcome<u8>
     where
         F: Fn(&Call, &[u32]) -> Answered,
     {
-        let Case { handed, corrections, uncertainties, coordinates, divisor, .. } = self;
-        let (unit, coordinates, divisor) = (*handed, *coordinates, *divisor);
-        let point = &Point { unit, net, told, corrections, uncertainties, coordinates, divisor };
+        let point = &self.point(self.loan(net, told));
         let exact = exact(&point.evaluated(), net);
         let number = match self.flag {
             None => point.check(&exact).map(|()| number(&exact))?,

@@ -19,7 +19,7 @@ pub fn over_copied(asked: Asked, seed: u64, count: usize, shelf: &Shelf, tally: 
         let Handed { unit: Unit { has_net, v, .. }, absent } = any_bytes(random);
         let unit = Handed { unit: Unit { has_net, v, ..case.handed.unit }, absent };
         let net = copied(unit, case.net_length, shelf, random)?;
-        case.check_over(&net, "a copy".to_string(), tally, |call, _| point::answer(call))?;
+        case.check_over(&net, "a copy", tally, |call, _| point::answer(call))?;
         Ok(())
     })
 }

@@ -7,7 +7,7 @@ use evaluator::net::{Multiplicities, Net};
 use evaluator::random::Random;
 use evaluator::ratio::factorial;
 
-type Way = fn(&mut Case, &Shelf, &mut Random);
+pub type Way = fn(&mut Case, &Shelf, &mut Random);
 
 pub const WAYS: [Way; 6] = [one_number, moved, moved, wrapped, another, any_numbers];
 

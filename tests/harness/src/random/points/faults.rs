@@ -116,11 +116,9 @@ fn outside(case: &mut Case, random: &mut Random) {
 /// The share of one needed entry is another at one local place of the point's tetrahedron.
 fn one_share_more(case: &mut Case, shelf: &Shelf, random: &mut Random) {
     let v = case.net.of;
-    let mut axes = [0, 1, 2];
-    axes.sort_by_key(|&b| (std::cmp::Reverse(case.remainder[b]), b));
     let [_, b1, b2, b3] = pick(random, &quadruples(v.degree()));
     let mut place = v.extents().map(|e| v.degree() * random.between(0, e - 1));
-    for (axis, local) in axes.into_iter().zip([b1 + b2 + b3, b2 + b3, b3]) {
+    for (axis, local) in case.axes().into_iter().zip([b1 + b2 + b3, b2 + b3, b3]) {
         place[axis] += local;
     }
     let index = v.index(place);

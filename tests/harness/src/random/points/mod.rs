@@ -1,22 +1,25 @@
 //! Random points, of the exact or of the live call: over defined nets and copies of the factory's, with faults,
-//! over damaged nets, and over gaps.
+//! over damaged nets, and over gaps; in two calls; and placings that points have or nearly have.
 
 mod case;
 mod copied;
 mod damage;
 mod faults;
 mod gaps;
+mod placings;
 mod spread;
 
 use super::{Plan, each_case, each_plan, pick, shape};
 use crate::Outcome;
 use crate::report::Tally;
 use crate::shelf::Shelf;
+use crate::two_calls;
 use case::Case;
 pub use copied::over_copied;
 use evaluator::point::Call;
 use evaluator::random::Random;
 use evaluator::{lent, live, point};
+pub use placings::valued;
 pub use spread::Spread;
 
 /// The call that is asked.
@@ -54,14 +57,39 @@ impl Asked {
     }
 }
 
+fn planned(plan: Plan, asked: Asked, shelf: &Shelf, random: &mut Random) -> Case {
+    match plan {
+        Plan::Sound => Case::sound(asked, shape(random), random),
+        Plan::Faulty(checks) => faults::faulty(asked, checks, shelf, random),
+        Plan::Free => faults::free(asked, random),
+    }
+}
+
+/// Points of all plans in two calls, of the sound ones some over damaged nets and some over gaps.
+pub fn in_two_calls(
+    of: Asked,
+    asked: two_calls::Asked,
+    seed: u64,
+    count: usize,
+    shelf: &Shelf,
+    tally: &mut Tally,
+) -> Outcome {
+    each_plan(seed, count, of.checks(), |plan, random| {
+        let case = match (plan, random.below(3)) {
+            (Plan::Sound, 0) => over_damaged(pick(random, &damage::WAYS), of, shelf, random),
+            (Plan::Sound, 1) => gaps::with_gaps(of, random),
+            _ => planned(plan, of, shelf, random),
+        };
+        let (net, told) = (case.net.slice(shelf, case.net_length), case.net.to_string());
+        let point = &case.point(case.loan(&net, &told));
+        asked(point, &lent::answer(&point.evaluated(), &net), tally)
+    })
+}
+
 /// Calls of all plans; the lent net's shares give the expected answers.
 pub fn any(asked: Asked, seed: u64, count: usize, shelf: &Shelf, spread: &mut Spread, tally: &mut Tally) -> Outcome {
     each_plan(seed, count, asked.checks(), |plan, random| {
-        let case = match plan {
-            Plan::Sound => Case::sound(asked, shape(random), random),
-            Plan::Faulty(checks) => faults::faulty(asked, checks, shelf, random),
-            Plan::Free => faults::free(asked, random),
-        };
+        let case = planned(plan, asked, shelf, random);
         plan.made(case.check(shelf, tally, lent::answer)?)?;
         if let Plan::Sound = plan {
             spread.count(&case);
@@ -82,12 +110,16 @@ pub fn by_recurrence(asked: Asked, seed: u64, count: usize, shelf: &Shelf, tally
 /// Sound calls but for the lent net, which is damaged in each way in turn.
 pub fn damaged(asked: Asked, seed: u64, count: usize, shelf: &Shelf, tally: &mut Tally) -> Outcome {
     each_case(seed, count, |number, random| {
-        let mut case = Case::sound(asked, shape(random), random);
-        let damage = damage::WAYS[number % damage::WAYS.len()];
-        damage(&mut case, shelf, random);
+        let case = over_damaged(damage::WAYS[number % damage::WAYS.len()], asked, shelf, random);
         case.check(shelf, tally, lent::answer)?;
         Ok(())
     })
+}
+
+fn over_damaged(damage: damage::Way, asked: Asked, shelf: &Shelf, random: &mut Random) -> Case {
+    let mut case = Case::sound(asked, shape(random), random);
+    damage(&mut case, shelf, random);
+    case
 }
 
 /// Calls over blocks with gaps: with any uncertainties at these the answer is that of the evaluator over the same block

@@ -1,0 +1,65 @@
+-- A point's placing is possible.
+use mathlib.Core.Logic.{inl, inr}
+use mathlib.Core.Path.{_∙_, _≡_, refl, sym}
+use Prim.Native.Nat.{_-_, _<_, _≤_, ℕ}
+use native.Mathlib.Nat.{mod-lt}
+use native.Mathlib.Omega.{arith}
+use Rattle.spline.specs.Place.{Axis, a1, a2, a3}
+use Rattle.unit.specs.declared.Unit.{Unit}
+use Rattle.placing.proofs.Cells.{by-face}
+use Rattle.placing.proofs.FieldTests.{Possible}
+use Rattle.placing.proofs.Placed.{PointAccepted}
+use Rattle.placing.proofs.Ranks.{Before, ordered, placing-axes, rank-cases, weights-add-up}
+use Rattle.placing.specs.Placing.{axisNumber, located, onAxes, placing, placingBy, rankAxes}
+use Rattle.placing.specs.Possible.{remainderOn}
+
+-- the remainders, from the weights of a placing
+remainders-are : (k u : Axis → ℕ) (D : ℕ)
+    → (let q = placingBy k u D (rankAxes u) in
+    (remainderOn q 1 ≡ u a1) × (remainderOn q 2 ≡ u a2) × (remainderOn q 3 ≡ u a3))
+unfolding remainderOn
+remainders-are k u D =
+    rank-cases u
+    (λ o. (let q = placingBy k u D o in
+    (remainderOn q 1 ≡ u a1) × (remainderOn q 2 ≡ u a2) × (remainderOn q 3 ≡ u a3)))
+    (λ a b. (omega arith, omega arith, omega arith))
+    (λ a b. (omega arith, omega arith, omega arith))
+    (λ a b. (omega arith, omega arith, omega arith))
+    (λ a b. (omega arith, omega arith, omega arith))
+    (λ a b. (omega arith, omega arith, omega arith))
+    (λ a b. (omega arith, omega arith, omega arith))
+
+-- a remainder of D is that of the far face, in the last cell
+last-cell : (x D n : ℕ) → 1 ≤ D → located x D n .remainder ≡ D → located x D n .cell ≡ n - 1
+last-cell x D n h =
+    by-face x D n (λ l. l .remainder ≡ D → l .cell ≡ n - 1) (λ e k. refl)
+    (λ e k. absurd (omega (arith, mod-lt x h)))
+
+-- where the weight between two axes is 0, the lower one is first
+tie-first : (u : Axis → ℕ) (a b : Axis) → Before u a b → u a - u b ≡ 0 → axisNumber a < axisNumber b
+tie-first u a b (inl l) e = absurd (omega arith)
+tie-first u a b (inr h) e = h .1
+
+module _ (u : Unit) (x y z D : ℕ) where
+  pub placed-possible : PointAccepted u x y z D → Possible u (placing u x y z D)
+  unfolding placing
+  placed-possible p =
+      let some = p .divisor .some in
+      let adds = weights-add-up u x y z D some in
+      let r = onAxes (located x D (u .n1) .remainder) (located y D (u .n2) .remainder)
+      (located z D (u .n3) .remainder) in
+      let t = rankAxes r in
+      let o = ordered r in
+      let are =
+      remainders-are
+      (onAxes (located x D (u .n1) .cell) (located y D (u .n2) .cell) (located z D (u .n3) .cell)) r D in
+      record {
+        axes = placing-axes u x y z D;
+        divisor = rw adds (p .divisor);
+        point-inside = p .point-inside;
+        first-tie = tie-first r (t .p) (t .r) (o .first);
+        second-tie = tie-first r (t .r) (t .s) (o .second);
+        face1 = λ e. last-cell x D (u .n1) some (sym (are .0) ∙ e ∙ adds);
+        face2 = λ e. last-cell y D (u .n2) some (sym (are .1) ∙ e ∙ adds);
+        face3 = λ e. last-cell z D (u .n3) some (sym (are .2) ∙ e ∙ adds);
+      }
