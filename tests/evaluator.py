@@ -15,8 +15,8 @@ def ask(*words, text=""):
 
 
 def live(command, flag, *call):
-    """The live answer by command `live` or `lent-live`, the call's words as `point` takes them: `both` with N and
-    U as floats, `shift` with N, or `refused` with number and place."""
+    """The live answer by command `live`, `lent-live` or `live-value-at`, after the flag the words that `point`
+    or `value-at` takes: `both` with N and U as floats, `shift` with N, or `refused` with number and place."""
     kind, *words = ask(command, flag, *call).split()
     if kind == "refused":
         return [kind, *map(int, words)]

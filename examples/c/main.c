@@ -9,12 +9,13 @@
 
 /* For the larger of the two nets. That of the factory has TORSKAVEL_FACTORY_PLACES. */
 #define PLACES TORSKAVEL_PLACES(3, 2, 2, 1)
+#define ENTRIES TORSKAVEL_MAX_ENTRIES
 
 static uint32_t net[PLACES], defined[PLACES];
 static int32_t work[PLACES];
 static struct block {
-    int16_t corrections[TORSKAVEL_MAX_ENTRIES];
-    uint16_t uncertainties[TORSKAVEL_MAX_ENTRIES];
+    int16_t corrections[ENTRIES];
+    uint16_t uncertainties[ENTRIES];
 } first, second; /* of the two axes */
 static uint8_t file[TORSKAVEL_MAX_FILE + 1]; /* one byte more, so that too long a file is seen */
 
@@ -69,8 +70,8 @@ static size_t read_file(const char *path) {
 
 static struct torskavel_unit load(struct torskavel_unit unit, size_t length, struct block *block) {
     printf("load %zu bytes: ", length);
-    struct torskavel_unit_answer a = torskavel_load(
-        unit, file, length, block->corrections, TORSKAVEL_MAX_ENTRIES, block->uncertainties, TORSKAVEL_MAX_ENTRIES);
+    struct torskavel_unit_answer a =
+        torskavel_load(unit, file, length, block->corrections, ENTRIES, block->uncertainties, ENTRIES);
     if (!refused(a.number, a.place)) printf("block %d %d %d\n", a.unit.n1, a.unit.n2, a.unit.n3);
     return a.unit;
 }
@@ -89,8 +90,8 @@ static void answered(struct torskavel_point_answer a) {
 static void answer(struct torskavel_unit unit, uint32_t x, uint32_t y, uint32_t z, uint32_t divisor) {
     asked("point", x, y, z, divisor);
     printf(": ");
-    answered(torskavel_answer(unit, net, PLACES, first.corrections, TORSKAVEL_MAX_ENTRIES, first.uncertainties,
-        TORSKAVEL_MAX_ENTRIES, x, y, z, divisor));
+    answered(torskavel_answer(
+        unit, net, PLACES, first.corrections, ENTRIES, first.uncertainties, ENTRIES, x, y, z, divisor));
 }
 
 /* Prints N and U, and what they are once divided, or the refusal. */
@@ -107,45 +108,47 @@ static void live(
     struct torskavel_unit unit, uint32_t x, uint32_t y, uint32_t z, uint32_t divisor, bool with_uncertainty) {
     asked("live", x, y, z, divisor);
     printf(with_uncertainty ? ": " : ", uncertainty switched off: ");
-    struct torskavel_live_point_answer a = torskavel_live_answer(unit, net, PLACES, first.corrections,
-        TORSKAVEL_MAX_ENTRIES, first.uncertainties, TORSKAVEL_MAX_ENTRIES, x, y, z, divisor, with_uncertainty);
+    struct torskavel_live_point_answer a = torskavel_live_answer(unit, net, PLACES, first.corrections, ENTRIES,
+        first.uncertainties, ENTRIES, x, y, z, divisor, with_uncertainty);
     live_answered(a, divisor, with_uncertainty);
 }
 
-static struct torskavel_placing place(
+/* Prints the placing, or the refusal. */
+static struct torskavel_placing_answer place(
     struct torskavel_unit unit, uint32_t x, uint32_t y, uint32_t z, uint32_t divisor) {
     asked("place", x, y, z, divisor);
     printf(": ");
     const struct torskavel_placing_answer a = torskavel_place(unit, x, y, z, divisor);
     const struct torskavel_placing q = a.placing;
     if (!refused(a.number, a.place)) {
-        printf("cell %" PRIu32 " %" PRIu32 " %" PRIu32 ", axis order %d %d %d, ", q.k1, q.k2, q.k3, q.p, q.r, q.s);
+        printf("cell %" PRIu32 " %" PRIu32 " %" PRIu32 ", ", q.k1, q.k2, q.k3);
+        printf("axis order %d %d %d, ", q.p, q.r, q.s);
         printf("weights %" PRIu32 " %" PRIu32 " %" PRIu32 " %" PRIu32 "\n", q.l0, q.l1, q.l2, q.l3);
     }
-    return q;
+    return a;
 }
 
 /* Values a placing exactly and live. */
 static void value(
-    const char *name, struct torskavel_unit unit, const struct block *block, struct torskavel_placing placing) {
+    const char *name, struct torskavel_unit unit, const struct block *block, struct torskavel_placing q) {
     const int16_t *c = block->corrections;
     const uint16_t *u = block->uncertainties;
-    const size_t length = TORSKAVEL_MAX_ENTRIES;
     printf("value, %s: ", name);
-    answered(torskavel_value(unit, net, PLACES, c, length, u, length, placing));
+    answered(torskavel_value(unit, net, PLACES, c, ENTRIES, u, ENTRIES, q));
     printf("live value, %s: ", name);
-    const uint32_t divisor = placing.l0 + placing.l1 + placing.l2 + placing.l3;
-    live_answered(torskavel_live_value(unit, net, PLACES, c, length, u, length, placing, true), divisor, true);
+    const uint32_t divisor = q.l0 + q.l1 + q.l2 + q.l3;
+    live_answered(torskavel_live_value(unit, net, PLACES, c, ENTRIES, u, ENTRIES, q, true), divisor, true);
 }
 
-/* One placing for both axes of the stage. The point is on the far face of a block with 3 entries on axis 2: in a
-   block with 4 entries there no point has this placing. */
+/* One placing for both axes of the stage. The point is on the far face of a block with 3 entries on axis 2: in
+   a block with 4 entries there no point has this placing. */
 static void stage(struct torskavel_unit unit) {
-    const struct torskavel_placing placing = place(unit, 5, 6, 5, 2);
-    value("first axis", unit, &first, placing);
-    value("second axis", unit, &second, placing);
+    const struct torskavel_placing_answer placed = place(unit, 5, 6, 5, 2);
+    if (placed.number != 0) return; /* a refused call has no placing to value */
+    value("first axis", unit, &first, placed.placing);
+    value("second axis", unit, &second, placed.placing);
     unit.n2 = 4;
-    value("another block", unit, &first, placing);
+    value("another block", unit, &first, placed.placing);
 }
 
 int main(int count, char **words) {

@@ -117,12 +117,13 @@ fn live(unit: Unit, [x, y, z]: [u32; 3], divisor: u32, with: bool, Slices { net,
     live_answered(&format!("live ({x}, {y}, {z})/{divisor}{how}"), a, divisor, with);
 }
 
-fn place(unit: Unit, [x, y, z]: [u32; 3], divisor: u32) -> Placing {
+/// Prints the placing, or the refusal, which has no placing to value.
+fn place(unit: Unit, [x, y, z]: [u32; 3], divisor: u32) -> Option<Placing> {
     let a = torskavel::place(unit, [x, y, z], divisor);
     let Placing { k1, k2, k3, p, r, s, l0, l1, l2, l3 } = a.placing;
     let given = format!("cell {k1} {k2} {k3}, axis order {p} {r} {s}, weights {l0} {l1} {l2} {l3}");
     report(&format!("place ({x}, {y}, {z})/{divisor}"), a.number, a.place, given);
-    a.placing
+    (a.number == torskavel::refused::NOT).then_some(a.placing)
 }
 
 /// Values a placing exactly and live.
@@ -135,10 +136,10 @@ fn value(name: &str, unit: Unit, net: &[u32], block: &Block, placing: Placing) {
     live_answered(&format!("live value, {name}"), a, divisor, true);
 }
 
-/// One placing for both axes of the stage. The point is on the far face of a block with 3 entries on axis 2: in
-/// a block with 4 entries there no point has this placing.
+/// One placing for both axes of the stage. The point is on the far face of a block with 3 entries on axis 2:
+/// in a block with 4 entries there no point has this placing.
 fn stage(unit: Unit, Slices { net, first, second, .. }: &Slices) {
-    let placing = place(unit, [5, 6, 5], 2);
+    let Some(placing) = place(unit, [5, 6, 5], 2) else { return };
     value("first axis", unit, net, first, placing);
     value("second axis", unit, net, second, placing);
     value("another block", Unit { n2: 4, ..unit }, net, first, placing);

@@ -123,7 +123,8 @@ static void any_bytes(void) {
     }
 }
 
-/* Numbers past what a narrower sum or product holds: each of these is within, once it is cut to 32, 16 or 8 bits. */
+/* Numbers past what a narrower sum or product holds. Cut to 32, 16 or 8 bits, most of these are possible: the weights
+   add up to 4, the cell is 2, 1, 1. */
 static void past_32_bits(void) {
     const unit held = example();
     const placing within = {2, 1, 1, 3, 1, 2, 1, 1, 1, 1};

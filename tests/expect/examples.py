@@ -7,7 +7,6 @@ Run in the repository, after `cargo build --release --offline` in evaluator/:
     python3 tests/expect/examples.py --check    says whether it is current
 
 The evaluator has no unit without a net and no order by bytes, so 21 and 2 are told here by their conditions.
-Placings are worked out by placings.py; what they are valued with is the evaluator's answer at their point.
 """
 import math
 import struct
@@ -17,7 +16,6 @@ from pathlib import Path
 
 sys.path.append(str(Path(__file__).resolve().parents[1]))
 from evaluator import ROOT, ask, live, net, widths
-from placings import numbers_of, possible, stands_for
 from stored import keep
 
 STORED = ROOT / "examples/expected"
@@ -28,6 +26,14 @@ SHOWN = (6, 6, 6)  # the place whose number is shown of a net
 
 def refused(number, place=0):
     return f"refused {number}, place {place}"
+
+
+def told_exact(word, *numbers):
+    """The shift and its uncertainty, or the refusal, from the evaluator's words."""
+    if word == "refused":
+        return refused(*numbers)
+    shift, uncertainty, over = numbers
+    return f"shift {shift}/{over}, uncertainty {uncertainty}/{over}"
 
 
 def file_refused(file, sizes):
@@ -75,63 +81,59 @@ class Unit:
         self.tell("inspect {} {} {} {}".format(*v), answer)
 
     def point(self, *place, divisor=2):
-        self.tell(f"point {place}/{divisor}", self.exact(place, divisor))
+        self.tell(f"point {place}/{divisor}", told_exact(*self.exact(place, divisor)))
 
     def live(self, *place, divisor=2, with_uncertainty=True):
         how = "" if with_uncertainty else ", uncertainty switched off"
-        self.tell(f"live {place}/{divisor}{how}", self.floats(place, divisor, with_uncertainty))
+        words = self.floats(place, divisor, with_uncertainty)
+        self.tell(f"live {place}/{divisor}{how}", self.told_floats(divisor, *words))
 
     def place(self, *place, divisor=2):
-        """A point that is inside; the ten numbers of its placing."""
-        placed = numbers_of(place, divisor, self.sizes)
+        """The ten numbers of a point's placing, as words; the point is inside."""
+        word, *placed = ask("place", *self.multiplicities, *self.sizes, *place, divisor).split()
+        assert word == "placing"
         told = "cell {} {} {}, axis order {} {} {}, weights {} {} {} {}".format(*placed)
         self.tell(f"place {place}/{divisor}", told)
         return placed
 
-    def value(self, name, file, sizes, placed):
-        """The placing as a unit with blocks of these sizes values it; the file is of the unit's own sizes."""
-        answers = [refused(17)] * 2
-        if possible(self.multiplicities, sizes, placed):
-            place, divisor = stands_for(placed)
-            answers = self.exact(place, divisor, file), self.floats(place, divisor, True, file)
-        for call, answer in zip(("value", "live value"), answers):
-            self.tell(f"{call}, {name}", answer)
+    def value(self, name, placed, *block, sizes=None):
+        """The placing as a unit with blocks of these sizes, or else of its own, values it."""
+        call = *self.multiplicities, *(sizes or self.sizes), *placed, *block
+        self.tell(f"value, {name}", told_exact(*ask("value-at", *call).split()))
+        divisor = sum(map(int, placed[-4:]))
+        self.tell(f"live value, {name}", self.told_floats(divisor, *live("live-value-at", 1, *call)))
 
-    def exact(self, place, divisor, file=FIELD):
-        """The shift and its uncertainty, or the refusal."""
-        word, *numbers = self.evaluated(place, divisor, file)
-        if word == "refused":
-            return refused(*numbers)
-        shift, uncertainty, over = numbers
-        return f"shift {shift}/{over}, uncertainty {uncertainty}/{over}"
-
-    def floats(self, place, divisor, with_uncertainty, file=FIELD):
-        """N and U with what they are once divided, or the refusal."""
-        m = sum(self.multiplicities) - 3
-        over = math.factorial(m) * divisor**m
-        call = int(with_uncertainty), *self.words(place, divisor, file)
-        word, *numbers = answered = live("lent-live", *call)
-        if not self.damage and live("live", *call) != answered:
-            sys.exit(f"live {place}: the net and the recurrence do not agree")
-        if word == "refused":
-            return refused(*numbers)
-        told = zip(("N", "U"), ("shift", "uncertainty"), numbers)
-        return ", ".join(f"{name} {number:.1f}, {what} {number / over:.4f}" for name, what, number in told)
-
-    def evaluated(self, place, divisor, file):
-        """The word `answer` with N, U and the denominator, or `refused` with number and place."""
+    def exact(self, place, divisor):
+        """What the evaluator says of a point, by the lent net and, where that is whole, by the recurrence."""
         if self.multiplicities is None:
             return "refused", 21
-        call = self.words(place, divisor, file)
+        call = self.words(place, divisor)
         words = ask("lent-point", *call).split()
         if words[0] == "answer" and not self.damage and ask("point", *call).split() != words:
             sys.exit(f"point {place}: the net and the recurrence do not agree")
         return words
 
-    def words(self, place, divisor, file):
-        """A call on the lent net and a file's block, as the evaluator takes it."""
-        call = [*self.multiplicities, *self.sizes, *place, divisor, "--file", file]
+    def floats(self, place, divisor, with_uncertainty):
+        """The same for the live call."""
+        call = int(with_uncertainty), *self.words(place, divisor)
+        words = live("lent-live", *call)
+        if not self.damage and live("live", *call) != words:
+            sys.exit(f"live {place}: the net and the recurrence do not agree")
+        return words
+
+    def words(self, place, divisor):
+        """A call on the lent net and the block, as the evaluator takes it."""
+        call = [*self.multiplicities, *self.sizes, *place, divisor, "--file", FIELD]
         return call + [f"{place}={number}" for place, number in self.damage.items()]
+
+    def told_floats(self, divisor, word, *numbers):
+        """N and U with what they are once divided, or the refusal."""
+        if word == "refused":
+            return refused(*numbers)
+        m = sum(self.multiplicities) - 3
+        over = math.factorial(m) * divisor**m
+        told = zip(("N", "U"), ("shift", "uncertainty"), numbers)
+        return ", ".join(f"{name} {number:.1f}, {what} {number / over:.4f}" for name, what, number in told)
 
     def tell(self, call, answer):
         self.lines.append(f"{call}: {answer}\n")
@@ -155,9 +157,9 @@ def expected():
     unit.live(690, 690, 690, divisor=276)
     unit.load(SECOND.read_bytes())
     placed = unit.place(5, 6, 5)
-    unit.value("first axis", FIELD, unit.sizes, placed)
-    unit.value("second axis", SECOND, unit.sizes, placed)
-    unit.value("another block", FIELD, (4, 4, 3), placed)
+    unit.value("first axis", placed, "--file", FIELD)
+    unit.value("second axis", placed, "--file", SECOND)
+    unit.value("another block", placed, "--seed", 1, sizes=(4, 4, 3))  # 17 looks at no entry
     unit.inspect()
     unit.damage[0] = 1
     unit.inspect()

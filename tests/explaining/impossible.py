@@ -1,5 +1,5 @@
-"""Placings that are impossible, and refused by 17. Which they are is worked out from the only point that can have
-one; by which rules, and what the caller likely did, from the ten numbers."""
+"""Placings that are impossible, and refused by 17. Which they are is worked out from the only point that can
+have one; by which rules, and what the caller likely did, from the ten numbers."""
 import itertools
 import math
 import random
@@ -52,11 +52,12 @@ def likely(numbers):
     """What the caller likely did, and what to do. Where any unit gives it, one of the simple net does."""
     sizes = [k + 1 for k in numbers[:3]]
     if numbers == ZEROS:
-        said = "all ten numbers are 0: so the placing call was refused, and its number says why"
+        said = "all ten numbers are 0: likely the placing call was refused, and its number says why"
         return said, "look at the number that the placing call gave, and value no placing that it refused"
     if max(sizes) <= 64 and math.prod(sizes) <= 4096 and possible((1, 1, 1, 1), sizes, numbers):
         said = "another unit gives it: likely the point was placed with another net or table"
-        return said, "place the point with the net and the table that it is valued with"
+        to_do = "place the point with the net and the table that it is valued with"
+        return f"{said}, or else a field was changed", f"{to_do}, and hand on all ten numbers as they came"
     said = "no unit gives such a placing: likely a field was changed, or read from the wrong bytes"
     return said, "hand on all ten numbers as the placing call gave them"
 
@@ -65,9 +66,11 @@ def impossible(scene, numbers):
     """17 with the rules, and nothing of a point or a live call."""
     text, _ = run(scene.path, scene.order, "placing", *numbers, status=REFUSED)
     broken = [] if numbers == ZEROS else list(rules(scene, numbers))
-    said, to_do = likely(numbers)
+    (said, to_do), concerned = likely(numbers), "firmware"
+    if any(size < extent for size, extent in zip(scene.sizes, scene.extents)):
+        to_do, concerned = "a table at least as large as the extents, or an order with fewer repeats", "the fitter"
     right = "17: no point has this placing, with this net and this table", [*broken, said]
-    right[1].extend(["concerns firmware", f"to do: {to_do}"])
+    right[1].extend([f"concerns {concerned}", f"to do: {to_do}"])
     same(numbers, "told", told(numbers, text), [right])
     last = list(sections(text)[1])[-2:]
     same(numbers, "last sections", last, ["The placing", "Refused"])

@@ -1,5 +1,5 @@
-"""A placing in place of a point. What is told of a possible one is what is told of the point that it stands for,
-whose figure is the evaluator's; impossible.py has the others."""
+"""A placing in place of a point. What is told of a possible one is what is told of the point that it stands
+for, whose figure is the evaluator's; impossible.py has the others."""
 import random
 
 from explaining.faults import DIFFERS, complained, liar

@@ -3,7 +3,16 @@
 use crate::placing::Placing;
 use crate::walk::Walk;
 
-/// What is said of an axis on which the table has fewer entries than the extent.
+/// What to do about a table in which no point is inside.
+pub const LARGER: &str = "a table at least as large as the extents, or an order with fewer repeats";
+
+/// Whether no point is inside, since on some axis the table has fewer entries than the extent.
+pub fn nowhere_inside(walk: &Walk) -> bool {
+    matches!((&walk.net, &walk.block), (Ok(net), Ok(block))
+        if net.extents().iter().zip(block.sizes).any(|(&extent, size)| size < extent))
+}
+
+/// What is said of such an axis.
 pub fn too_small(axis: usize, extent: usize, size: usize) -> String {
     let never = "no point is inside with this net and this table, the far face neither";
     format!("axis {axis}: {size} entries are fewer than the extent {extent}: {never}")

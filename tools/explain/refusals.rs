@@ -145,11 +145,9 @@ fn of_divisor(walk: &Walk, number: u32) -> Words {
 fn of_point(walk: &Walk, number: u32, place: usize) -> Words {
     match number {
         refused::OUTSIDE => {
-            let small = matches!((&walk.net, &walk.block), (Ok(net), Ok(block))
-                if net.extents().iter().zip(block.sizes).any(|(&extent, size)| size < extent));
-            let to_do = "probe further in; the far face itself is inside";
-            let larger = "a table at least as large as the extents, or an order with fewer repeats";
-            words_of("the point is not inside the table", FITTER, if small { larger } else { to_do })
+            let further = "probe further in; the far face itself is inside";
+            let to_do = if outside::nowhere_inside(walk) { outside::LARGER } else { further };
+            words_of("the point is not inside the table", FITTER, to_do)
         }
         refused::UNMEASURED => {
             let elsewhere = match &walk.block {
@@ -165,6 +163,9 @@ fn of_point(walk: &Walk, number: u32, place: usize) -> Words {
             let to_do =
                 "have that entry measured; every entry of the window is wanted, also one without a share";
             words_of(wrong, SURVEYOR, to_do)
+        }
+        refused::PLACING if outside::nowhere_inside(walk) => {
+            words_of(valuing::WRONG, FITTER, outside::LARGER)
         }
         refused::PLACING => words_of(valuing::WRONG, FIRMWARE, valuing::to_do(walk)),
         _ => of_divisor(walk, number),

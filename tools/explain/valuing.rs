@@ -1,5 +1,5 @@
-//! What is told of a placing that was handed in: the point that it stands for, whether the point call gives the
-//! same there, and 17.
+//! What is told of a placing that was handed in: the point that it stands for, whether the point call gives
+//! the same there, and 17.
 
 use crate::handed::Handed;
 use crate::library::{Figure, Refusal};
@@ -8,8 +8,8 @@ use crate::request::Question;
 use crate::torskavel::refused;
 use crate::walk::Walk;
 
-/// What the valuing call gives, and what it has to give: the point call's answer at the point that the placing
-/// stands for, or 17 where it stands for none.
+/// What the valuing call gives, and what it has to give: the point call's answer at the point that the
+/// placing stands for, or 17 where it stands for none.
 pub struct Valued {
     pub given: Result<Figure, Refusal>,
     pub right: Result<Figure, Refusal>,
@@ -33,11 +33,16 @@ fn handed(walk: &Walk) -> Option<Handed> {
 /// What its caller likely did, and what to do about it.
 fn likely(handed: &Handed) -> (&'static str, &'static str) {
     if handed.is_zeros() {
-        let refused = "all ten numbers are 0: so the placing call was refused, and its number says why";
+        let refused = "all ten numbers are 0: likely the placing call was refused, and its number says why";
         (refused, "look at the number that the placing call gave, and value no placing that it refused")
     } else if handed.of_some_unit() {
-        let another = "another unit gives it: likely the point was placed with another net or table";
-        (another, "place the point with the net and the table that it is valued with")
+        let another = "another unit gives it: likely the point was placed with another net or table, \
+                       or else a field was changed";
+        (
+            another,
+            "place the point with the net and the table that it is valued with, and hand on all ten \
+             numbers as they came",
+        )
     } else {
         let changed =
             "no unit gives such a placing: likely a field was changed, or read from the wrong bytes";

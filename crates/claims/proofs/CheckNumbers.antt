@@ -61,7 +61,7 @@ pub then-numbered : (start rest : Checked) → Numbered start → Numbered rest 
 then-numbered Passed rest l h = h
 then-numbered (Stopped r) rest l h = l
 
--- ---- the checks of each call
+-- ---- the checks of each call, and the parts that they are made of, are numbered
 
 pub build-numbered : (order : List ℕ) (netLength workLength : ℕ)
     → Numbered (buildChecks order netLength workLength)

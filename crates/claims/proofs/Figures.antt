@@ -40,7 +40,7 @@ unfolding sumTo sumZ sumBox sumBoxZ factorial multinomial sumSimplex sumSimplexZ
 all-figures = (refl, ((refl, refl, refl), (refl, (refl, (refl, (refl, (refl, (refl, points))))))))
   where
     placings : AllHold placingFigures
-    placings = (refl, (refl, (refl, (refl, (refl, (refl, (refl, (refl, (refl, tt)))))))))
+    placings = (refl, (refl, (refl, (refl, (refl, (refl, (refl, (refl, (refl, (refl, tt))))))))))
 
     lives : AllHold liveFigures
     lives = (refl, (refl, ((refl, refl), (refl, (refl, (refl, (refl, (refl, placings))))))))

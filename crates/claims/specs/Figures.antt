@@ -135,7 +135,8 @@ fivesButGap = 5 ∷ 0 ∷ 5 ∷ 5 ∷ 5 ∷ 5 ∷ 5 ∷ 5 ∷ []
 
 -- of placings in a block of 3, 2, 2 under the simple net: possible is one on the far face; not so are its
 -- like in the cell before, a tie with the higher axis first, a cell outside, a sum of weights of 0 and one of
--- 2^32 + 2, and an axis that stands twice; then those of two points below, valued
+-- 2^32 + 2, and an axis that stands twice, which a unit without a block refuses by 22; then those of two points
+-- below, valued
 abbrev pub placingFigures : List Figure
 placingFigures =
     placed (unitWith 1 1 1 1 3 2 2) (placingIn 2 1 2 3 0 1 1 0) Passed
@@ -145,6 +146,7 @@ placingFigures =
     ∷ placed (unitWith 1 1 1 1 3 2 2) (placingIn 1 1 2 3 0 0 0 0) (Stopped (refusal 17 0))
     ∷ placed (unitWith 1 1 1 1 3 2 2) (placingIn 1 1 2 3 4294967295 3 0 0) (Stopped (refusal 17 0))
     ∷ placed (unitWith 1 1 1 1 3 2 2) (placingIn 1 1 1 3 1 1 0 0) (Stopped (refusal 17 0))
+    ∷ placed (unitWith 1 1 1 1 0 2 2) (placingIn 1 1 1 3 1 1 0 0) (Stopped (refusal 22 0))
     ∷ valued twoEntries (placingIn 1 1 2 3 1 1 0 0) (pos 60) 10 2
     ∷ valued twoEntries (placingIn 1 1 2 3 0 1 0 0) (negsuc 39) 5 1
     ∷ []

@@ -41,6 +41,7 @@ tie-first u a b (inl l) e = absurd (omega arith)
 tie-first u a b (inr h) e = h .1
 
 module _ (u : Unit) (x y z D : ℕ) where
+  -- a point past its checks has a possible placing
   pub placed-possible : PointAccepted u x y z D → Possible u (placing u x y z D)
   unfolding placing
   placed-possible p =

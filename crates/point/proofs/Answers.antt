@@ -100,9 +100,11 @@ module _ (u : Unit) (net : List ℕ) (corrections : List ℤ) (uncertainties : L
     value-refused h = sym (value-by-checks ∙ rw h refl)
 
     module _ (e : value-checks ≡ Passed) where
+      -- and what it lets pass is answered with the fraction
       pub value-made : Value (fractionAt q (weightSum q)) ≡ answer
       value-made = sym (value-by-checks ∙ rw e refl)
 
+      -- whose denominator is within 2^48
       pub value-scaled : Scaled (degree (netOf u)) q
       unfolding blendPlacedChecks
       value-scaled =

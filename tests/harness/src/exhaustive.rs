@@ -1,4 +1,4 @@
-//! Small units: every point is placed, and every placing with numbers up to a little past the limits is valued. What
+//! Small units: every point is placed, and every placing with small numbers, some past each limit, is valued. What
 //! the points give is answered, and all else is refused by 17.
 
 use crate::Outcome;
@@ -18,9 +18,13 @@ use evaluator::{lent, live};
 use std::collections::HashMap;
 use std::fmt;
 
-/// Multiplicities, sizes, and the greatest weight.
-const CASES: [([usize; 4], [usize; 3], u32); 3] =
-    [([1, 1, 1, 1], [3, 2, 3], 4), ([2, 1, 1, 1], [3, 3, 2], 3), ([1, 2, 1, 1], [2, 3, 3], 2)];
+/// Multiplicities, sizes, and the greatest weight. Of degree 9 the largest divisors are 9, and 4 in a live call.
+const CASES: [([usize; 4], [usize; 3], u32); 4] = [
+    ([1, 1, 1, 1], [3, 2, 3], 4),
+    ([2, 1, 1, 1], [3, 3, 2], 3),
+    ([1, 2, 1, 1], [2, 3, 3], 2),
+    ([9, 1, 1, 1], [10, 2, 2], 3),
+];
 
 /// The greatest number for an axis; there are three.
 const AXIS: u32 = 4;

@@ -1,6 +1,6 @@
-//! Runs the archive of the C interface on the stored vectors, on all placings of small units and on random calls, and
-//! compares every answer and every lent slice with the evaluator's numbers. With `--trace` it prints each case before the
-//! call, of a small unit's placings only the unit.
+//! Runs the archive of the C interface on the stored vectors, on all placings of small units and on random calls,
+//! and compares every answer and every lent slice with the evaluator's numbers. With `--trace` it prints each case
+//! before the call, of a small unit's placings only the unit.
 
 mod answers;
 mod calls;

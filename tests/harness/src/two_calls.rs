@@ -40,19 +40,21 @@ pub fn value(point: &Point, exact: &Answered, tally: &mut Tally) -> Outcome {
     })
 }
 
-/// The live valuing call there, with the uncertainty and without it: as the live call, but that 15 comes before 4
-/// and 9.
+/// The live valuing call there, with the uncertainty and without it: as the live call, but that 15 comes before
+/// 4 and 9.
 pub fn live_value(point: &Point, exact: &Answered, tally: &mut Tally) -> Outcome {
     each_placed(point, |valuing| {
         for flag in [1, 0] {
             let expected = live::value(&valuing.evaluated(), *exact, flag != 0);
             LiveValuing { valuing, flag }.check(&expected)?;
             tally.count(number(&expected));
+            let in_one_call = match *exact {
+                Err(refusal) if BEFORE_10.contains(&number(exact)) => Err(refusal),
+                _ => expected,
+            };
             let whole = Live { point, flag }.answer(&Slices::of(&point.loan));
-            if number(&expected) != 15 || !BEFORE_10.map(u32::from).contains(&whole.number) {
-                expect(LiveBits::from(&expected), whole)
-                    .map_err(|failure| format!("{valuing}: in one call: {failure}"))?;
-            }
+            expect(LiveBits::from(&in_one_call), whole)
+                .map_err(|failure| format!("{valuing}: in one call: {failure}"))?;
         }
         Ok(())
     })
