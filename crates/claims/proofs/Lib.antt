@@ -25,3 +25,5 @@ pub mod Factory
 pub mod Seventeen
 pub mod TwoCalls
 pub mod LiveTwoCalls
+pub mod LineFromEdge
+pub mod Halves

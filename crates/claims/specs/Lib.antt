@@ -7,3 +7,4 @@ pub mod Live
 pub mod Loads
 pub mod Factory
 pub mod Placings
+pub mod Halves

@@ -1,4 +1,4 @@
--- The rows of the first pass.
+-- The rows of the first half.
 use mathlib.Core.List.{List}
 use mathlib.Core.Path.{_∙_, _≡_, ap, ap₂, refl, sym}
 use Prim.Native.Nat.{_%_, _*_, _+_, _-_, _/_, _<_, _≤_, suc, ℕ}
@@ -18,7 +18,7 @@ use Rattle.shape.proofs.Directions.{component-le}
 use Rattle.differences.proofs.NearPlaces.{difference-near, pivot, pivot-le, pivot-others}
 use Rattle.differences.proofs.NearPlaces.{reaches, stepOf, sub-near}
 use Rattle.differences.specs.Inner.Coordinates.{cellOf, loweredCoordinate, nearCoordinate, pivotOf}
-use Rattle.differences.specs.Inner.Rows.{SmallCell, between, lineDifference, lowIn, stepDifference}
+use Rattle.differences.specs.Inner.Rows.{SmallCell, alongDifference, between, lowIn, stepDifference}
 use Rattle.differences.specs.Pass.{difference, indexDifference, wrapped}
 use Rattle.shape.specs.Direction.{component, vectorOf}
 use Rattle.differences.specs.declared.cells.Cell.{Cell}
@@ -136,7 +136,7 @@ module _ (k g : ℕ) (W : Axis → ℕ) (s : List ℕ) (W′ : Axis → ℕ) (y 
   -- the difference at the place x of the row, from the cells of y and z
   pub line-difference : (x : ℕ) → x < W′ a1
       → indexDifference (direction k) g W s W′ (W′ a1 * (y + W′ a2 * z) + x)
-      ≡ lineDifference g W s cy cz ((x + g) % suc g) (nearCoordinate g ((x + g) % suc g) g x)
+      ≡ alongDifference g W s cy cz x
   line-difference x hx =
       let u : ℕ = (x + g) % suc g in
       let e1 : g * 1 ≡ g = omega arith in
@@ -155,7 +155,7 @@ product-bound : (g x m : ℕ) → g ≤ 8 → x ≤ 100 → g * (x / m) ≤ 800
 product-bound g x m hg hx = mul-le-mul hg (le-trans (div-le-self x m) hx)
 
 -- a step along an axis is at most the degree
-pub step-small : (d : Direction) (b : Axis) (g : ℕ) → g * component d b ≤ g
+step-small : (d : Direction) (b : Axis) (g : ℕ) → g * component d b ≤ g
 step-small d b g = let h : g * component d b ≤ g * 1 = mul-le-mul-left g (component-le d b) in omega arith
 
 -- the cells of the places of a box are small

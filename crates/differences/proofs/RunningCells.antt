@@ -66,10 +66,10 @@ next-carries g n l =
     ∙ ap (λ (t : ℕ). cellAt t 0) e
 
 -- the first cell
-pub first-cell : (g t : ℕ) → t ≤ g → cellOf g (0 + t) ≡ cellAt 0 t
+pub first-cell : (g t : ℕ) → t ≤ g → cellOf g t ≡ cellAt 0 t
 first-cell g t l =
     let e : g * 0 ≡ 0 = omega arith in
-    cell-is g 0 t l (0 + t) (omega arith) ∙ ap (λ (k : ℕ). cellAt k t) e
+    cell-is g 0 t l t (omega arith) ∙ ap (λ (k : ℕ). cellAt k t) e
 
 -- ---- the lowered coordinate as it runs along
 -- It stays once in each cell, past the pivot: s is the coordinate that has run along to n where the next stay

@@ -1,4 +1,4 @@
--- The first pass of a repeat, the differences at every place of the new box: Section 6.3.
+-- The first half of a repeat, the differences at every place of the new box: Section 6.3.
 use mathlib.Core.Bool.{Bool, _&&_, cond}
 use mathlib.Core.List.{List}
 use Prim.Native.Nat.{ℕ}

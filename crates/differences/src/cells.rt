@@ -1,6 +1,6 @@
 // Cells and remainders of coordinates, and the pivot that remainders are compared with.
 ghost use mathlib.Core.Path.{_≡_};
-ghost use Prim.Native.Nat.{ℕ, _+_, _≤_};
+ghost use Prim.Native.Nat.{ℕ, _+_, _*_, _≤_};
 ghost use Rattle.spline.specs.Build.{direction};
 ghost use Rattle.spline.specs.Rule.{lowerAbove};
 ghost use Rattle.differences.specs.Inner.Coordinates.{cellOf, pivotOf};
@@ -34,6 +34,18 @@ pub(crate) fn lower(p: usize, u: usize) -> usize
 pub(crate) struct Cell {
     pub(crate) base: usize,
     pub(crate) u: usize,
+}
+
+// Those of the coordinate where the pass begins: on an axis that the direction moves along (step 1) it is −1,
+// which is g when taken a cell up; on the others it is 0.
+pub(crate) fn first_cell(g: usize, step: usize) -> Cell
+    requires { ⌜ (g ≤ 8) × (step ≤ 1) ⌝ }
+    ensures { λ r. ⌜ r ≡ cellOf g (g * step) ⌝ }
+{
+    Cell {
+        base: 0,
+        u: g * step,
+    }
 }
 
 // Those of the next coordinate.

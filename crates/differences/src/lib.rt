@@ -1,5 +1,5 @@
-// The first pass of a repeat: at every place of the new box, the right side of the step rule at the place one
-// step of the direction before it. docs/SPECIFICATION.md, Section 6.3.
+// The first half of a repeat, shift and subtract: at every place of the new box, the right side of the step
+// rule at the place one step of the direction before it. docs/SPECIFICATION.md, Section 6.3.
 ghost use mathlib.Core.Path.{_≡_};
 ghost use Prim.Native.Nat.{_+_, _*_, _≤_, _<_};
 ghost use lib.ListN.{length};
@@ -44,10 +44,7 @@ fn difference_layer(
     let g = old.m;
     let w2 = new.w2;
     let v = shape::vector_of(d);
-    let mut cy = Cell {
-        base: 0,
-        u: g * v.y,
-    };
+    let mut cy = cells::first_cell(g, v.y);
     let mut y = 0;
     while y < w2 {
         row::difference_row(net, work, old, new, d, y, z, cy, cz);
@@ -66,10 +63,7 @@ fn difference_box(net: &[u32], work: &mut [i32], old: Shape, new: Shape, d: u8)
     let g = old.m;
     let w3 = new.w3;
     let v = shape::vector_of(d);
-    let mut cz = Cell {
-        base: 0,
-        u: g * v.z,
-    };
+    let mut cz = cells::first_cell(g, v.z);
     let mut z = 0;
     while z < w3 {
         difference_layer(net, work, old, new, d, z, cz);
@@ -92,7 +86,7 @@ fn fits(old: Shape, new: Shape, net: usize, work: usize) -> bool
 }
 
 // Writes the differences of a repeat of direction d, from the net in the box `old` to that in the box `new`.
-pub fn differences(old: Shape, new: Shape, d: u8, net: &[u32], work: &mut [i32])
+pub fn shift_and_subtract(old: Shape, new: Shape, d: u8, net: &[u32], work: &mut [i32])
     ensures { λ _. ⌜ now (work .exit)
         ≡ differencesOf (direction d) old new (now (net .entry)) (now (work .entry)) ⌝ }
 {

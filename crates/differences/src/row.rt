@@ -1,7 +1,7 @@
 // The differences of one row.
 ghost use mathlib.Core.Path.{_≡_};
-ghost use Prim.Native.Nat.{ℕ, suc, _+_, _*_, _%_, _≤_, _<_};
-ghost use lib.ListN.{getD, length};
+ghost use Prim.Native.Nat.{ℕ, _+_, _*_, _≤_, _<_};
+ghost use lib.ListN.{length};
 ghost use lib.IntN.{ℤ, pos, _-ℤ_};
 ghost use Rattle.sums.specs.Fill.{filled};
 ghost use Rattle.sums.specs.Word.{signedWord};
@@ -13,8 +13,9 @@ ghost use Rattle.shape.specs.Direction.{component};
 ghost use Rattle.shape.specs.Inner.Boxes.{Boxed};
 ghost use Rattle.differences.specs.Pass.{wrapped, indexDifference};
 ghost use Rattle.differences.specs.Inner.Coordinates.{cellOf, nearCoordinate};
-ghost use Rattle.differences.specs.Inner.Rows.{rowEnd, stepDifference, lowIn, lineDifference};
-ghost use Rattle.differences.specs.Inner.Rows.{FillsOn, Growing, SmallCell};
+ghost use Rattle.differences.specs.Inner.Rows.{rowEnd, lowIn, stepDifference, rowDifference};
+ghost use Rattle.differences.specs.Inner.Rows.{alongDifference, Column, FillsOn, Growing, IsRowEnd};
+ghost use Rattle.differences.specs.Inner.Rows.{SmallCell};
 use crate::cells;
 use crate::cells::Cell;
 use crate::rows;
@@ -88,27 +89,51 @@ fn difference_across(
     }
 }
 
-// Where the lowered row of each remainder on the first axis ends, from the cells of y and z.
-fn row_ends(s: Shape, y: Cell, z: Cell) -> [usize; 9]
-    requires { ⌜ Boxed s × (s .m ≤ 8) × SmallCell y × SmallCell z ⌝ }
-    ensures { λ r. ⌜ ((u : ℕ) → u ≤ s .m → getD r u 0 ≡ rowEnd (widths s) (lowIn u y) (lowIn u z)) ⌝ }
+// Where the lowered row of the remainder u on the first axis ends, from the cells of y and z.
+fn lowered_end(s: Shape, y: Cell, z: Cell, u: usize) -> usize
+    requires { ⌜ Boxed s × SmallCell y × SmallCell z ⌝ }
+    ensures { λ r. ⌜ r ≡ rowEnd (widths s) (lowIn u y) (lowIn u z) ⌝ }
 {
-    let g = s.m;
-    let mut ends = [0usize; 9];
-    let mut u = 0;
-    while u <= g {
-        ends[u] = rows::end_of(
-            s,
-            y.base + cells::lower(u, y.u),
-            z.base + cells::lower(u, z.u),
-        );
-        u += 1;
+    rows::end_of(
+        s,
+        y.base + cells::lower(u, y.u),
+        z.base + cells::lower(u, z.u),
+    )
+}
+
+// Every (g + 1)th index from b on, up to e: all of them read the row that ends at r, the first at a, each
+// other g places on. So what is near at one of them is far at the next, and is read once.
+fn difference_column(
+    net: &[u32],
+    work: &mut [i32],
+    old: Shape,
+    r: usize,
+    a: usize,
+    b: usize,
+    e: usize,
+)
+    requires { ⌜ Growing old (length (now net)) × IsRowEnd (widths old) r ⌝ }
+    requires { ⌜ (a ≤ 8) × (e ≤ length (now work)) ⌝ }
+    ensures { λ _. ⌜ ((y z : ℤ) → r ≡ rowEnd (widths old) y z
+        → Column (old .m) (λ k. rowDifference (old .m) (widths old) (now (net .entry)) y z (a + old .m * k))
+        b e e (now (work .entry)) (now (work .exit))) ⌝ }
+{
+    let g = old.m;
+    let mut far = rows::read_back(net, old, r, a, g);
+    let mut x = a;
+    let mut i = b;
+    while i < e {
+        let near = rows::read(net, old, r, x);
+        work[i] = minus(near, far);
+        far = near;
+        x += g;
+        i += g + 1;
     }
-    ends
 }
 
 // The places from i on of a row of direction 1, whose lines run along it. The pivot is the remainder u of
-// each place itself.
+// each place itself, so places of one remainder read one row. The first of them is x, at the lowered
+// coordinate a.
 fn difference_along(
     net: &[u32],
     work: &mut [i32],
@@ -121,29 +146,18 @@ fn difference_along(
     requires { ⌜ Growing old (length (now net)) ⌝ }
     requires { ⌜ (i + w1 ≤ length (now work)) × SmallCell y × SmallCell z ⌝ }
     ensures { λ _. ⌜ ((f : ℕ → ℤ)
-        → ((x : ℕ) → x < w1
-        → f (i + x) ≡ lineDifference (old .m) (widths old) (now (net .entry)) y z
-        ((x + old .m) % suc (old .m))
-        (nearCoordinate (old .m) ((x + old .m) % suc (old .m)) (old .m) x))
+        → ((x : ℕ) → x < w1 → f (i + x) ≡ alongDifference (old .m) (widths old) (now (net .entry)) y z x)
         → FillsOn f i (i + w1) (now (work .entry)) (now (work .exit))) ⌝ }
 {
     let g = old.m;
-    let ends = row_ends(old, y, z);
     let mut u = g;
     let mut a = 0;
     let mut x = 0;
-    while x < w1 {
-        let e = ends[u];
-        work[i + x] = minus(
-            rows::read(net, old, e, a),
-            rows::read_back(net, old, e, a, g),
-        );
-        if u == g {
-            u = 0;
-        } else {
-            u += 1;
-            a += 1;
-        }
+    while x <= g {
+        let r = lowered_end(old, y, z, u);
+        difference_column(net, work, old, r, a, i + x, i + w1);
+        u = x;
+        a = x;
         x += 1;
     }
 }

@@ -1,6 +1,6 @@
--- One byte taken up: the two passes make the net of the order with this byte of the net before it.
+-- One byte taken up: the halves of its repeat make the net of the order with this byte of the net before it.
 use mathlib.Core.List.{List, map}
-use mathlib.Core.Path.{_∙_, _≡_, ap, ap₂, refl, subst, sym}
+use mathlib.Core.Path.{_∙_, _≡_, ap, refl, subst, sym}
 use Prim.Native.Nat.{_+_, _<_, _≤_, ℕ}
 use native.Mathlib.Nat.{le-trans}
 use native.Mathlib.Omega.{arith}
@@ -11,146 +11,175 @@ use Rattle.sums.proofs.Fill.{filled-at, filled-cong, length-filled}
 use Rattle.sums.proofs.Signed.{abs-diff}
 use Rattle.sums.proofs.Words.{signed-small, word-small}
 use Rattle.sums.specs.Fill.{filled}
-use Rattle.sums.specs.Word.{word}
-use Rattle.spline.proofs.Low.{ZeroLow}
+use Rattle.sums.specs.Word.{signedWord, word}
 use Rattle.spline.proofs.Multiplicities.{order-degree}
 use Rattle.spline.proofs.OrderNet.{order-low}
-use Rattle.spline.specs.Box.{netList, placeOf, places, spread}
-use Rattle.spline.specs.Build.{direction, orderNet, stepped}
-use Rattle.spline.specs.Multiplicities.{degree, orderMultiplicities}
-use Rattle.spline.specs.Place.{Axis, Direction, Net, Place}
+use Rattle.spline.specs.Box.{netList, placeOf, places, spread, width}
+use Rattle.spline.specs.Build.{direction, orderNet}
+use Rattle.spline.specs.Multiplicities.{Multiplicities, degree, more, orderMultiplicities}
+use Rattle.spline.specs.Place.{Axis, Direction, Net, Place, a1, a2, a3, along, diagonal}
 use Rattle.shape.proofs.Shapes.{limits-boxed, shape-widths}
 use Rattle.shape.specs.Inner.Boxes.{Boxed}
 use Rattle.shape.specs.Shape.{shapeOf, widths}
 use Rattle.shape.specs.declared.Shape.{Shape}
 use Rattle.differences.proofs.PassFits as First
 use Rattle.differences.specs.Pass.{difference, differencesOf, indexDifference}
-use Rattle.lines.proofs.PassFits as Second
-use Rattle.lines.specs.Pass.{lineNumber, sumsOf}
-use Rattle.net.proofs.Orders.{length-next, net-next, order-at-most, prefix-limits}
-use Rattle.net.proofs.Orders.{prefix-places, spread-order}
+use Rattle.summations.proofs.PassFits as Second
+use Rattle.summations.specs.Pass.{edgeSum, lineNumber, sumsOf}
+use Rattle.net.proofs.Orders.{length-next, multiplicities-next, net-next, order-at-most}
+use Rattle.net.proofs.Orders.{prefix-limits, prefix-places, spread-order}
 use Rattle.net.proofs.Telescope.{edge-sum-at}
 use Rattle.net.specs.Inner.GoodOrder.{GoodOrder}
 use Rattle.net.specs.Order.{orderNumber, orderPlaces, orderWidth}
+use Rattle.net.specs.Repeat.{netRepeated, workBetween}
+
+-- A repeat sums the differences that its first half took. By cases, so that a definition which is wrong in
+-- one direction is refused there.
+pub in-turn : (d : Direction) (v : Multiplicities) (net : List ℕ) (work : List ℤ)
+    → netRepeated d v net work ≡ sumsOf d (shapeOf (more d v)) net (workBetween d v net work)
+in-turn (along a1) v net work = refl
+in-turn (along a2) v net work = refl
+in-turn (along a3) v net work = refl
+in-turn diagonal v net work = refl
 
 -- a difference of net numbers is far from what 32 bits hold
 diff-small : (a b : ℕ) → a ≤ 362880 → b ≤ 362880 → natAbs (pos a -ℤ pos b) ≤ 2147483647
 diff-small a b ha hb = omega (arith, abs-diff (pos a) (pos b))
 
--- byte t of an order, where the net slice holds what the bytes before it build
-module _ (o : List ℕ) (good : GoodOrder o) (t : ℕ) (l : t < length o) (old new : Shape)
-    (eo : old ≡ shapeOf (orderMultiplicities (take t o)))
-    (en : new ≡ shapeOf (orderMultiplicities (take (t + 1) o))) where
+-- byte t of an order
+module _ (o : List ℕ) (good : GoodOrder o) (t : ℕ) (l : t < length o) where
   abbrev d : Direction
   d = direction (getD o t 0)
 
-  old-widths : widths old ≡ orderWidth (take t o)
-  old-widths = ap widths eo ∙ shape-widths (orderMultiplicities (take t o))
+  abbrev v : Multiplicities
+  v = orderMultiplicities (take t o)
 
-  new-widths : widths new ≡ orderWidth (take (t + 1) o)
-  new-widths = ap widths en ∙ shape-widths (orderMultiplicities (take (t + 1) o))
+  -- the net of the bytes before it
+  abbrev G : Net
+  G = orderNet (take t o)
 
-  old-degree : old .m ≡ degree (orderMultiplicities (take t o))
-  old-degree = ap (λ (s : Shape). s .m) eo
+  abbrev old : Shape
+  old = shapeOf v
+
+  abbrev new : Shape
+  new = shapeOf (more d v)
+
+  -- the widths of the new box
+  abbrev W : Axis → ℕ
+  W = widths new
+
+  next : more d v ≡ orderMultiplicities (take (t + 1) o)
+  next = sym (multiplicities-next o t l)
+
+  new-widths : W ≡ orderWidth (take (t + 1) o)
+  new-widths = shape-widths (more d v) ∙ ap width next
 
   -- ---- the two boxes
 
   room : (n k : ℕ) (s : Shape) → widths s ≡ orderWidth (take k o) → orderPlaces o ≤ n → places (widths s) ≤ n
   room n k s e h = subst (λ (W : Axis → ℕ). places W ≤ n) (sym e) (le-trans (prefix-places o k) h)
 
-  boxes : (k : ℕ) (s : Shape) → s ≡ shapeOf (orderMultiplicities (take k o)) → k ≤ length o → Boxed s
-  boxes k s e h =
-      let v = orderMultiplicities (take k o) in
-      subst Boxed (sym e) (limits-boxed v (prefix-limits o k 12 v refl h (omega (arith, good .short))))
+  boxes : (k : ℕ) (w : Multiplicities) → w ≡ orderMultiplicities (take k o) → k ≤ length o → Boxed (shapeOf w)
+  boxes k w e h = limits-boxed w (prefix-limits o k 12 w e h (omega (arith, good .short)))
 
-  degree-most : old .m ≤ 8
+  degree-most : degree v ≤ 8
   degree-most =
       omega (
         arith,
-        old-degree,
         order-degree (map direction (take t o)),
         length-map (take t o) direction,
         length-take-le t o (omega arith),
         good .short,
       )
 
-  module _ (net₀ : List ℕ) (work₀ : List ℤ)
-      (net-room : orderPlaces o ≤ length net₀) (work-room : orderPlaces o ≤ length work₀)
-      (held : take (orderPlaces (take t o)) net₀
-      ≡ netList (orderWidth (take t o)) (orderNet (take t o))) where
-    abbrev G : Net
-    G = spread (widths old) net₀
+  -- the net slice holds what the bytes before it build
+  module _ (net : List ℕ) (work : List ℤ)
+      (net-room : orderPlaces o ≤ length net) (work-room : orderPlaces o ≤ length work)
+      (held : take (orderPlaces (take t o)) net ≡ netList (orderWidth (take t o)) G) where
+    reads : spread (widths old) net ≡ G
+    reads = ap (λ (W : Axis → ℕ). spread W net) (shape-widths v) ∙ spread-order (take t o) net held
 
-    reads : G ≡ orderNet (take t o)
-    reads = ap (λ (W : Axis → ℕ). spread W net₀) old-widths ∙ spread-order (take t o) net₀ held
+    new-room : (n : ℕ) → orderPlaces o ≤ n → places W ≤ n
+    new-room n = room n (t + 1) new new-widths
 
-    steps : stepped d (old .m) G ≡ orderNet (take (t + 1) o)
-    steps = ap₂ (stepped d) old-degree reads ∙ sym (net-next o t l)
+    abbrev between : List ℤ
+    between = workBetween d v net work
 
-    -- ---- the first pass
+    -- ---- the first half
 
     abbrev written : ℕ → ℤ
-    written = indexDifference d (old .m) (widths old) net₀ (widths new)
+    written = indexDifference d (degree v) (widths old) net W
 
     -- it passes its own checks, and writes the differences
-    first-writes : differencesOf d old new net₀ work₀ ≡ filled written (places (widths new)) work₀
+    first-writes : between ≡ filled written (places W) work
     unfolding differencesOf
     first-writes =
-        simp (First.facts-fit old new (length net₀) (length work₀)
+        simp (First.facts-fit old new (length net) (length work)
         (record {
-          boxed = boxes t old eo (omega arith);
+          boxed = boxes t v refl (omega arith);
           degree = degree-most;
-          held = room (length net₀) t old old-widths net-room;
+          held = room (length net) t old (shape-widths v) net-room;
         })
-        (boxes (t + 1) new en (omega arith)) (room (length work₀) (t + 1) new new-widths work-room))
+        (boxes (t + 1) (more d v) next (omega arith)) (new-room (length work) work-room))
 
-    small : (q : Place) → G q ≤ 362880
-    small q =
-        subst (λ (C : Net). C q ≤ 362880) (sym reads)
-        (order-at-most (take t o) (omega (arith, length-take-le t o (omega arith), good .short)) q)
+    -- none of which is cut
+    pub entry : (i : ℕ) → i < places W
+        → getD between i (pos 0) ≡ difference d (degree v) G (placeOf W i)
+    entry i r =
+        let q = placeOf W i in
+        let small : (p : Place) → G p ≤ 362880
+        = order-at-most (take t o) (omega (arith, length-take-le t o (omega arith), good .short)) in
+        ap (λ (w : List ℤ). getD w i (pos 0)) first-writes
+        ∙ filled-at written (places W) work i (pos 0) r
+        ∙ ap (λ (H : Net). signedWord (word (difference d (degree v) H q))) reads
+        ∙ signed-small (difference d (degree v) G q) (diff-small _ _ (small _) (small _))
 
-    entry : (work : List ℤ) → work ≡ filled written (places (widths new)) work₀
-        → (i : ℕ) → i < places (widths new)
-        → getD work i (pos 0) ≡ difference d (old .m) G (placeOf (widths new) i)
-    entry work e i r =
-        ap (λ (w : List ℤ). getD w i (pos 0)) e
-        ∙ filled-at written (places (widths new)) work₀ i (pos 0) r
-        ∙ signed-small (difference d (old .m) G (placeOf (widths new) i)) (diff-small _ _ (small _) (small _))
+    -- the work slice keeps its length
+    pub between-length : length between ≡ length work
+    between-length =
+        ap length first-writes ∙ length-filled written (places W) work (new-room (length work) work-room)
 
-    -- ---- the second pass
+    -- ---- the second half
 
-    module _ (work : List ℤ) (e : work ≡ differencesOf d old new net₀ work₀) where
-      number : (i : ℕ) → i < places (widths new)
-          → lineNumber d (widths new) work i ≡ orderNet (take (t + 1) o) (placeOf (widths new) i)
-      number i r =
-          let q = placeOf (widths new) i in
-          let low = subst ZeroLow (sym reads) (order-low (map direction (take t o))) in
-          let few = order-at-most (take (t + 1) o) (omega (arith, length-next o t l, good .short)) q in
-          ap word (edge-sum-at d (old .m) G low (widths new) work (entry work (e ∙ first-writes)) i r
-          ∙ ap (λ (C : Net). pos (C q)) steps)
-          ∙ word-small (orderNet (take (t + 1) o) q) (omega (arith, few))
+    -- from the box's edge the differences sum to the numbers of the next net
+    edge-sums : (i : ℕ) → i < places W
+        → edgeSum d W between (placeOf W i) ≡ pos (orderNet (take (t + 1) o) (placeOf W i))
+    edge-sums i r =
+        edge-sum-at d (degree v) G (order-low (map direction (take t o))) W between entry i r
+        ∙ ap (λ (C : Net). pos (C (placeOf W i))) (sym (net-next o t l))
 
-      abbrev new-room : (n : ℕ) → orderPlaces o ≤ n → places (widths new) ≤ n
-      new-room n = room n (t + 1) new new-widths
+    number : (i : ℕ) → i < places W
+        → lineNumber d W between i ≡ orderNet (take (t + 1) o) (placeOf W i)
+    number i r =
+        let q = placeOf W i in
+        let few = order-at-most (take (t + 1) o) (omega (arith, length-next o t l, good .short)) q in
+        ap word (edge-sums i r) ∙ word-small (orderNet (take (t + 1) o) q) (omega (arith, few))
 
-      work-length : length work ≡ length work₀
-      work-length =
-          ap length (e ∙ first-writes)
-          ∙ length-filled written (places (widths new)) work₀ (new-room (length work₀) work-room)
+    -- it passes its own checks, and writes these numbers
+    second-writes : sumsOf d new net between ≡ filled (lineNumber d W between) (places W) net
+    unfolding sumsOf
+    second-writes =
+        simp (Second.facts-fit new (length net) (length between)
+        (boxes (t + 1) (more d v) next (omega arith)) (new-room (length net) net-room)
+        (new-room (length between) (omega (arith, between-length))))
 
-      -- it passes its own checks, and sums the differences to the next net
-      second-writes : sumsOf d new net₀ work
-          ≡ filled (orderNumber (take (t + 1) o)) (orderPlaces (take (t + 1) o)) net₀
-      unfolding sumsOf
-      second-writes =
-          let C = orderNet (take (t + 1) o) in
-          simp (Second.facts-fit new (length net₀) (length work) (boxes (t + 1) new en (omega arith))
-          (new-room (length net₀) net-room) (new-room (length work) (omega (arith, work-length))))
-          (filled-cong _ (λ i. C (placeOf (widths new) i)) (places (widths new)) net₀ number
-          ∙ ap (λ (W : Axis → ℕ). filled (λ i. C (placeOf W i)) (places W) net₀) new-widths)
+    pub taken-up : netRepeated d v net work
+        ≡ filled (orderNumber (take (t + 1) o)) (orderPlaces (take (t + 1) o)) net
+    taken-up =
+        let C = orderNet (take (t + 1) o) in
+        in-turn d v net work
+        ∙ second-writes
+        ∙ filled-cong _ (λ i. C (placeOf W i)) (places W) net number
+        ∙ ap (λ (W : Axis → ℕ). filled (λ i. C (placeOf W i)) (places W) net) new-widths
 
-      -- after both passes the net slice holds the next net, and the work slice has kept its length
-      pub taken-up : (sumsOf d new net₀ work
-          ≡ filled (orderNumber (take (t + 1) o)) (orderPlaces (take (t + 1) o)) net₀)
-          × (length work ≡ length work₀)
-      taken-up = (second-writes, work-length)
+    -- each of them is the sum of the differences on its line, from the box's edge
+    pub summed : (i : ℕ) → i < places W
+        → pos (getD (netRepeated d v net work) i 0) ≡ edgeSum d W between (placeOf W i)
+    summed i r =
+        ap (λ (s : List ℕ). pos (getD s i 0)) taken-up
+        ∙ ap pos (filled-at (orderNumber (take (t + 1) o)) (orderPlaces (take (t + 1) o)) net i 0 in-box)
+        ∙ ap (λ (W : Axis → ℕ). pos (orderNet (take (t + 1) o) (placeOf W i))) (sym new-widths)
+        ∙ sym (edge-sums i r)
+      where
+        in-box : i < orderPlaces (take (t + 1) o)
+        in-box = subst (λ (W : Axis → ℕ). i < places W) new-widths r

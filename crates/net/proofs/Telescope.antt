@@ -18,9 +18,9 @@ use Rattle.spline.specs.Box.{index, placeOf, places}
 use Rattle.spline.specs.Build.{stepped}
 use Rattle.spline.specs.Place.{Axis, Direction, Net, Place, _⊖_, a1, a2, a3, downIf, moves, place}
 use Rattle.shape.proofs.Directions.{component-some}
-use Rattle.lines.proofs.EdgeSums.{edge-inside, edge-outside, step-inside}
+use Rattle.summations.proofs.EdgeSums.{edge-inside, edge-outside, step-inside}
 use Rattle.differences.specs.Pass.{difference}
-use Rattle.lines.specs.Pass.{edgeSum}
+use Rattle.summations.specs.Pass.{edgeSum}
 use Rattle.shape.specs.Direction.{component}
 
 -- the place of three naturals

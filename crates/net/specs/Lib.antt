@@ -1,3 +1,4 @@
 pub mod Order
 pub mod Build
+pub mod Repeat
 pub mod Inner

@@ -1,14 +1,15 @@
 // The repeats of an order, one for each byte, from the simple net.
 ghost use mathlib.Core.Path.{_≡_};
-ghost use Prim.Native.Nat.{_+_, _≤_, _<_};
+ghost use Prim.Native.Nat.{_≤_, _<_};
 ghost use mathlib.Core.List.{[]};
-ghost use lib.ListN.{length, take};
+ghost use lib.ListN.{length};
 ghost use Rattle.sums.specs.Fill.{filled};
-ghost use Rattle.spline.specs.Build.{orderNet};
-ghost use Rattle.spline.specs.Box.{netList};
-ghost use Rattle.spline.specs.Multiplicities.{orderMultiplicities};
+ghost use Rattle.spline.specs.Build.{direction};
+ghost use Rattle.spline.specs.Multiplicities.{more};
+ghost use Rattle.spline.specs.Inner.Limits.{Limits};
 ghost use Rattle.shape.specs.Shape.{counted};
-ghost use Rattle.net.specs.Order.{orderWidth, orderPlaces, orderNumber};
+ghost use Rattle.net.specs.Order.{orderPlaces, orderNumber};
+ghost use Rattle.net.specs.Repeat.{workBetween, netRepeated};
 ghost use Rattle.net.specs.Inner.GoodOrder.{GoodOrder};
 use crate::direction;
 use shape::Counts;
@@ -33,24 +34,22 @@ fn lay_simple(net: &mut [u32])
     }
 }
 
-// Takes up byte t, where the net slice holds what the bytes before it build, of multiplicities c.
-fn take_up(order: &[u8], t: usize, c: Counts, net: &mut [u32], work: &mut [i32])
-    requires { ⌜ GoodOrder (now order) × (t < length (now order)) ⌝ }
-    requires { ⌜ counted c ≡ orderMultiplicities (take t (now order)) ⌝ }
-    requires { ⌜ (orderPlaces (now order) ≤ length (now net))
-        × (orderPlaces (now order) ≤ length (now work)) ⌝ }
-    requires { ⌜ take (orderPlaces (take t (now order))) (now net)
-        ≡ netList (orderWidth (take t (now order))) (orderNet (take t (now order))) ⌝ }
-    ensures { λ _. ⌜ now (net .exit)
-        ≡ filled (orderNumber (take (t + 1) (now (order .entry))))
-        (orderPlaces (take (t + 1) (now (order .entry)))) (now (net .entry)) ⌝ }
-    ensures { λ _. ⌜ length (now (work .exit)) ≡ length (now (work .entry)) ⌝ }
+// Takes up a repeat of direction d, from the net of multiplicities c: the differences first, then their sums
+// along each line. Answers the multiplicities with it.
+fn take_up(c: Counts, d: u8, net: &mut [u32], work: &mut [i32]) -> Counts
+    requires { ⌜ (1 ≤ d) × (d ≤ 4) × Limits (counted c) 11 ⌝ }
+    ensures counts { λ r. ⌜ counted r ≡ more (direction d) (counted c) ⌝ }
+    ensures work { λ _. ⌜ now (work .exit)
+        ≡ workBetween (direction d) (counted c) (now (net .entry)) (now (work .entry)) ⌝ }
+    ensures net { λ _. ⌜ now (net .exit)
+        ≡ netRepeated (direction d) (counted c) (now (net .entry)) (now (work .entry)) ⌝ }
 {
-    let d = order[t];
+    let next = direction::one_more(c, d);
     let old = shape::shape_of(c);
-    let new = shape::shape_of(direction::one_more(c, d));
-    differences::differences(old, new, d, net, work);
-    lines::sum_lines(new, d, net, work);
+    let new = shape::shape_of(next);
+    differences::shift_and_subtract(old, new, d, net, work);
+    summations::integrate(new, d, net, work);
+    next
 }
 
 // Takes up all bytes of an order, from the simple net.
@@ -71,8 +70,7 @@ pub(crate) fn run(order: &[u8], net: &mut [u32], work: &mut [i32])
     };
     let mut t = 0;
     while t < order.len() {
-        take_up(order, t, c, net, work);
-        c = direction::one_more(c, order[t]);
+        c = take_up(c, order[t], net, work);
         t += 1;
     }
 }

@@ -13,9 +13,9 @@ use Rattle.spline.specs.Box.{places}
 use Rattle.spline.specs.Build.{direction}
 use Rattle.spline.specs.Place.{Axis, Direction, a1, a2, a3}
 use Rattle.shape.specs.Shape.{widths}
+use Rattle.shape.proofs.Directions.{component-le}
 use Rattle.shape.proofs.Rows.{layer-within}
-use Rattle.differences.proofs.RunningCells.{cellAt, first-cell}
-use Rattle.differences.proofs.DifferenceRows.{cell-small, step-small}
+use Rattle.differences.proofs.DifferenceRows.{cell-small}
 use Rattle.differences.proofs.difference_box.Statement.{statement}
 use Rattle.differences.specs.Inner.Coordinates.{cellOf}
 use Rattle.differences.specs.Pass.{indexDifference}
@@ -57,18 +57,21 @@ module _ (c : tie.In-loop Inv-loop μ-loop) where
 vector-of-requires : tie.Need-vector-of-requires Inv-loop μ-loop
 vector-of-requires c κs = search needs
 
-mul-t11 : tie.Need-mul-t11 Inv-loop μ-loop
-mul-t11 c =
-    let q = c .before .before .before in
-    omega (arith, ap (λ (v : Vector). g q * v .z) (c .before .vector-of .ensures), step-small (d q) a3 (g q))
+first-cell-requires : tie.Need-first-cell-requires Inv-loop μ-loop
+first-cell-requires c κs =
+    let q = c .before .before in
+    let step = ap (λ (v : Vector). v .z) (c .vector-of .ensures) in
+    (q .pre .0 .degree, omega (arith, step, component-le (d q) a3))
 
 loop-holds : tie.Need-loop-holds Inv-loop μ-loop
 loop-holds c =
     let q = c .before .before .before in
     let e : 0 ≡ upto q 0 = omega arith in
-    let first = first-cell (g q) (g q * component (d q) a3) (step-small (d q) a3 (g q)) in (
+    let n : g q * component (d q) a3 ≡ 0 + g q * component (d q) a3 = omega arith in (
       omega arith,
-      ap (λ (v : Vector). cellAt 0 (g q * v .z)) (c .before .vector-of .ensures) ∙ sym first,
+      c .first-cell .ensures
+          ∙ ap (λ (v : Vector). cellOf (g q) (g q * v .z)) (c .before .vector-of .ensures)
+          ∙ ap (cellOf (g q)) n,
       refl,
       sym (fill-none (f q) (now (q .args .work))) ∙ ap (λ (k : ℕ). filled (f q) k (now (q .args .work))) e,
     )
@@ -137,7 +140,7 @@ difference-box-spec =
     Inv-loop
     μ-loop
     vector-of-requires
-    mul-t11
+    first-cell-requires
     loop-holds
     difference-layer-requires
     next-cell-requires

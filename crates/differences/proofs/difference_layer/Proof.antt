@@ -1,5 +1,5 @@
 -- After y turns the rows before y are written, and the cell of y has run along.
-use mathlib.Core.Path.{_∙_, _≡_, ap, refl, sym}
+use mathlib.Core.Path.{_∙_, _≡_, ap, refl}
 use Prim.Native.Nat.{_*_, _+_, _-_, _≤_, ℕ}
 use native.Mathlib.Nat.{le-antisymm, mul-le-mul-left}
 use native.Mathlib.Omega.{arith}
@@ -12,9 +12,9 @@ use Rattle.sums.specs.Fill.{filled}
 use Rattle.spline.specs.Build.{direction}
 use Rattle.spline.specs.Place.{Axis, Direction, a1, a2, a3}
 use Rattle.shape.specs.Shape.{widths}
+use Rattle.shape.proofs.Directions.{component-le}
 use Rattle.shape.proofs.Rows.{row-within}
-use Rattle.differences.proofs.RunningCells.{cellAt, first-cell}
-use Rattle.differences.proofs.DifferenceRows.{cell-small, step-small}
+use Rattle.differences.proofs.DifferenceRows.{cell-small}
 use Rattle.differences.proofs.difference_layer.Statement.{statement}
 use Rattle.differences.specs.Inner.Coordinates.{cellOf}
 use Rattle.differences.specs.Pass.{indexDifference}
@@ -56,18 +56,21 @@ module _ (c : tie.In-loop Inv-loop μ-loop) where
 vector-of-requires : tie.Need-vector-of-requires Inv-loop μ-loop
 vector-of-requires c κs = search needs
 
-mul-t13 : tie.Need-mul-t13 Inv-loop μ-loop
-mul-t13 c =
-    let q = c .before .before .before in
-    omega (arith, ap (λ (v : Vector). g q * v .y) (c .before .vector-of .ensures), step-small (d q) a2 (g q))
+first-cell-requires : tie.Need-first-cell-requires Inv-loop μ-loop
+first-cell-requires c κs =
+    let q = c .before .before in
+    let step = ap (λ (v : Vector). v .y) (c .vector-of .ensures) in
+    (q .pre .0 .0 .degree, omega (arith, step, component-le (d q) a2))
 
 loop-holds : tie.Need-loop-holds Inv-loop μ-loop
 loop-holds c =
     let q = c .before .before .before in
     let e : W q a1 * (W q a2 * q .args .z) ≡ upto q 0 = omega arith in
-    let first = first-cell (g q) (g q * component (d q) a2) (step-small (d q) a2 (g q)) in (
+    let n : g q * component (d q) a2 ≡ 0 + g q * component (d q) a2 = omega arith in (
       omega arith,
-      ap (λ (v : Vector). cellAt 0 (g q * v .y)) (c .before .vector-of .ensures) ∙ sym first,
+      c .first-cell .ensures
+          ∙ ap (λ (v : Vector). cellOf (g q) (g q * v .y)) (c .before .vector-of .ensures)
+          ∙ ap (cellOf (g q)) n,
       refl,
       q .pre .1 .1 ∙ ap (λ (k : ℕ). filled (f q) k (now (q .args .work))) e,
     )
@@ -140,7 +143,7 @@ difference-layer-spec =
     Inv-loop
     μ-loop
     vector-of-requires
-    mul-t13
+    first-cell-requires
     loop-holds
     difference-row-requires
     next-cell-requires

@@ -1,4 +1,4 @@
--- Coordinates as the first pass goes through them: cells, pivots and lowered coordinates in natural numbers.
+-- Coordinates as the first half goes through them: cells, pivots and lowered coordinates in natural numbers.
 use Prim.Native.Nat.{_%_, _*_, _+_, _-_, _/_, suc, ℕ}
 use Rattle.spline.specs.Place.{Direction, a1, a2, a3, along, diagonal}
 use Rattle.spline.specs.Rule.{lowerAbove}

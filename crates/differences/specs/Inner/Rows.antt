@@ -1,8 +1,9 @@
--- The first pass row by row, as the code takes it.
+-- The first half row by row, as the code takes it.
 use mathlib.Core.List.{List}
 use mathlib.Core.Path.{_≡_}
-use Prim.Native.Nat.{_*_, _+_, _≤_, ℕ}
+use Prim.Native.Nat.{_%_, _*_, _+_, _<_, _≤_, suc, ℕ}
 use lib.IntN.{_-ℤ_, pos, subℕ, ℤ}
+use lib.ListN.{getD}
 use Rattle.sums.specs.Fill.{filled}
 use Rattle.spline.specs.Box.{inBox, places, spread}
 use Rattle.spline.specs.Place.{Axis, Place, a1, a2, a3, place}
@@ -11,6 +12,7 @@ use Rattle.shape.specs.Inner.Boxes.{Boxed}
 use Rattle.shape.specs.Shape.{widths}
 use Rattle.shape.specs.declared.Shape.{Shape}
 use Rattle.shape.specs.declared.Vector.{Vector}
+use Rattle.differences.specs.Inner.Coordinates.{nearCoordinate}
 use Rattle.differences.specs.Pass.{wrapped}
 use Rattle.differences.specs.declared.cells.Cell.{Cell}
 
@@ -37,10 +39,25 @@ stepDifference W s t a b c =
 abbrev pub lowIn : ℕ → Cell → ℤ
 lowIn p c = pos (c .base + lowerAbove p (c .u))
 
--- the number at a of the lowered row of y and z, less the one g before it; the pivot is the remainder u of x
+-- the number at a of the row (y, z), less the one g before it
+abbrev pub rowDifference : ℕ → (Axis → ℕ) → List ℕ → ℤ → ℤ → ℕ → ℤ
+rowDifference g W s y z a = between W s (place (pos a) y z) (place (subℕ a g) y z)
+
+-- that of the lowered row of y and z, for the pivot u
 abbrev pub lineDifference : ℕ → (Axis → ℕ) → List ℕ → Cell → Cell → ℕ → ℕ → ℤ
-lineDifference g W s y z u a =
-    between W s (place (pos a) (lowIn u y) (lowIn u z)) (place (subℕ a g) (lowIn u y) (lowIn u z))
+lineDifference g W s y z u a = rowDifference g W s (lowIn u y) (lowIn u z) a
+
+-- that at the place x of a row of direction 1, where the pivot is the remainder of x − 1
+abbrev pub alongDifference : ℕ → (Axis → ℕ) → List ℕ → Cell → Cell → ℕ → ℤ
+alongDifference g W s y z x =
+    lineDifference g W s y z ((x + g) % suc g) (nearCoordinate g ((x + g) % suc g) g x)
+
+-- Of the indices b, b + (g + 1), b + 2 (g + 1), .. those below t hold the numbers of f now; all indices but
+-- those of them below e are untouched.
+pub record Column (g : ℕ) (f : ℕ → ℤ) (b t e : ℕ) (before after : List ℤ) : Type 0 where
+  pub numbers : (k : ℕ) → b + suc g * k < t → getD after (b + suc g * k) (pos 0) ≡ f k
+  pub others : (j : ℕ) → ((k : ℕ) → b + suc g * k < e → j ≡ b + suc g * k → ⊥)
+      → getD after j (pos 0) ≡ getD before j (pos 0)
 
 -- where the first a places of a list held the numbers of f, the first e places hold them now, and the rest is
 -- untouched

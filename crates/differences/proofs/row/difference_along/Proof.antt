@@ -1,164 +1,63 @@
--- The remainder u and the lowered coordinate a run along with x; each turn writes the difference at them.
-use mathlib.Core.Logic.{⊎-elim}
-use mathlib.Core.Path.{_∙_, _≡_, ap, ap₂, refl, sym}
-use Prim.Native.Nat.{_%_, _*_, _+_, _-_, _<_, _≤_, suc, ℕ}
-use native.Mathlib.Nat.{le-antisymm}
+-- Each turn writes the column that begins at x, whose places have the remainder u; from one turn to the next
+-- the columns before x are written.
+use mathlib.Core.Path.{_≡_, refl}
+use Prim.Native.Nat.{_*_, _+_, _-_, _≤_, suc, ℕ}
 use native.Mathlib.Omega.{arith}
-use borrow.Author.Needs.{needs}
-use lib.IntN.{_-ℤ_, pos, subℕ, ℤ}
-use lib.ListN.{getD, length, length-set}
+use lib.IntN.{ℤ}
+use lib.ListN.{length}
 use denote.Ref.{now}
-use mir.Facts.{toZ-ofZ}
-use mir.Syntax.{w32}
-use mir.Val.{SFits, ofZ, toZ}
-use Rattle.sums.specs.Fill.{filled}
-use Rattle.spline.specs.Box.{spread}
-use Rattle.spline.specs.Place.{Place, place}
 use Rattle.shape.specs.Shape.{widths}
-use Rattle.differences.proofs.RunningCells.{goes-on, running-near, running-remainder, stays}
-use Rattle.differences.proofs.DifferenceRows.{fills-next}
+use Rattle.differences.proofs.Columns.{Written, column-difference, written-all, written-next}
+use Rattle.differences.proofs.Columns.{written-none}
 use Rattle.differences.proofs.row.difference_along.Statement.{statement}
-use Rattle.differences.specs.Inner.Coordinates.{nearCoordinate}
-use Rattle.differences.specs.Inner.Rows.{IsRowEnd, lineDifference, lowIn, rowEnd}
-use Rattle.differences.specs.Pass.{wrapped}
-use Rattle.differences.specs.declared.cells.Cell.{Cell}
+use Rattle.differences.specs.Inner.Rows.{IsRowEnd, alongDifference}
 use Rattle.differences.proofs.row.difference_along.Tie as tie
 
 abbrev Inv-loop : tie.InvT-loop
-Inv-loop net work₀ old i w1 g ends u₀ a₀ x₀ work u a x =
-    (x ≤ w1) × (u ≤ g) × (a ≤ x) × (x + g + (g - u) + suc g * (a + g) ≡ g + suc g * (x + g))
-    × (length work ≡ length work₀)
-    × ((f : ℕ → ℤ) (y z : Cell)
-    → ((v : ℕ) → v ≤ g → getD ends v 0 ≡ rowEnd (widths old) (lowIn v y) (lowIn v z))
-    → ((x : ℕ) → x < w1 → f (i + x)
-    ≡ lineDifference g (widths old) net y z ((x + g) % suc g) (nearCoordinate g ((x + g) % suc g) g x))
-    → work₀ ≡ filled f i work₀ → work ≡ filled f (i + x) work₀)
+Inv-loop net work₀ old i w1 y z g u₀ a₀ x₀ work u a x =
+    (x ≤ g + 1) × (u ≤ g) × (a ≤ x) × (g + suc g * a ≡ u + g * x) × (length work ≡ length work₀)
+    × Written g (alongDifference g (widths old) net y z) i w1 x work₀ work
 
 abbrev μ-loop : tie.MeasureT-loop
-μ-loop net work₀ old i w1 g ends u₀ a₀ x₀ work u a x = w1 - x
+μ-loop net work₀ old i w1 y z g u₀ a₀ x₀ work u a x = g + 1 - x
 
--- the row that is read in a turn
-row-of : (c : tie.In-loop Inv-loop μ-loop)
-    → IsRowEnd (widths (c .before .before .before .before .args .old))
-    (getD (c .before .before .row-ends .result) (c .before .loop .u) 0)
-row-of c = record {
-  y = _;
-  z = _;
-  is = c .before .before .row-ends .ensures (c .before .loop .u) (c .before .loop .inv .1);
-}
-
--- once both numbers are read
-module _ (c : tie.After-read-back Inv-loop μ-loop) where
-  abbrev start : tie.Start Inv-loop μ-loop
-  start = c .before .before .before .before .before .before
-
+module _ (s : tie.Start Inv-loop μ-loop) where
   abbrev g : ℕ
-  g = start .args .old .m
+  g = s .args .old .m
 
-  abbrev near : ℕ
-  near = c .before .before .before .loop .a
-
-  abbrev at : ℕ
-  at = c .before .before .before .loop .x
-
-  abbrev u : ℕ
-  u = c .before .before .before .loop .u
-
-  abbrev reads : Place → ℕ
-  reads = spread (widths (start .args .old)) (now (start .args .net))
-
-  abbrev end : ℕ
-  end = getD (c .before .before .before .before .row-ends .result) u 0
-
-  module _ (y z : ℤ) (e : end ≡ rowEnd (widths (start .args .old)) y z) where
-    near-number : c .before .read .result ≡ reads (place (pos near) y z)
-    near-number = c .before .read .ensures y z e
-
-    far-number : c .read-back .result ≡ reads (place (subℕ near g) y z)
-    far-number = c .read-back .ensures y z e
-
-  remainder-here : u ≡ (at + g) % suc g
-  remainder-here =
-      let l = c .before .before .before .loop in
-      sym (running-remainder g (l .x + g) (l .u) (l .a + g) (l .inv .1) (omega (arith, l .inv .1, l .inv .3)))
-
-  near-is : near ≡ nearCoordinate g u g at
-  near-is =
-      let l = c .before .before .before .loop in
-      running-near g (l .u) g (l .x) 0 (l .a) (l .inv .1) (omega arith) (omega (arith, l .inv .1, l .inv .3))
-
--- where the ends are those of the lowered rows of two cells
-module _ (c : tie.After-minus Inv-loop μ-loop) (y z : Cell)
-    (ends : (v : ℕ) → v ≤ g (c .before)
-    → getD (c .before .before .before .before .before .row-ends .result) v 0
-    ≡ rowEnd (widths (start (c .before) .args .old)) (lowIn v y) (lowIn v z)) where
-  abbrev b : tie.After-read-back Inv-loop μ-loop
-  b = c .before
-
-  abbrev valueAt : ℕ → ℕ → ℤ
-  valueAt w a = lineDifference (g b) (widths (start b .args .old)) (now (start b .args .net)) y z w a
-
-  written : toZ w32 (ofZ w32 (c .minus .result))
-      ≡ valueAt ((at b + g b) % suc (g b)) (nearCoordinate (g b) ((at b + g b) % suc (g b)) (g b) (at b))
-  written =
-      let e = ends (u b) (c .before .before .before .before .loop .inv .1) in
-      let fits : SFits w32 (c .minus .result) = record { sfits = c .minus .ok } in
-      toZ-ofZ fits
-      ∙ c .minus .ensures
-      ∙ ap₂ (λ (m n : ℕ). wrapped (pos m -ℤ pos n)) (near-number b _ _ e) (far-number b _ _ e)
-      ∙ ap (valueAt (u b)) (near-is b)
-      ∙ ap (λ (w : ℕ). valueAt w (nearCoordinate (g b) w (g b) (at b))) (remainder-here b)
-
-row-ends-requires : tie.Need-row-ends-requires Inv-loop μ-loop
-row-ends-requires c κs =
-    let q = c .before in
-    (q .pre .0 .boxed, q .pre .0 .degree, q .pre .1 .1, q .pre .1 .2)
+  -- the difference at a place of the row
+  abbrev numberAt : ℕ → ℤ
+  numberAt x = alongDifference g (widths (s .args .old)) (now (s .args .net)) (s .args .y) (s .args .z) x
 
 loop-holds : tie.Need-loop-holds Inv-loop μ-loop
 loop-holds c =
-    let q = c .before .before in
-    let e : q .args .i ≡ q .args .i + 0 = omega arith in (
+    let q = c .before in (
       omega arith,
       omega arith,
       omega arith,
       omega arith,
       refl,
-      λ f y z ends h k. k ∙ ap (λ (n : ℕ). filled f n (now (q .args .work))) e,
+      written-none (g q) (numberAt q) (q .args .i) (q .args .w1) (now (q .args .work)),
     )
 
-mul-e : tie.Need-mul-e Inv-loop μ-loop
-mul-e c = omega arith
+lowered-end-requires : tie.Need-lowered-end-requires Inv-loop μ-loop
+lowered-end-requires c κs =
+    let q = c .before .before .before in
+    (q .pre .0 .boxed, q .pre .1 .1, q .pre .1 .2)
 
-array-read-e : tie.Need-array-read-e Inv-loop μ-loop
-array-read-e c = omega arith
+add-difference-column : tie.Need-add-difference-column Inv-loop μ-loop
+add-difference-column c = omega arith
 
-read-requires : tie.Need-read-requires Inv-loop μ-loop
-read-requires c κs =
-    let q = c .before .before .before .before in
-    (q .pre .0 .boxed, q .pre .0 .held, row-of c)
+add-difference-column-2 : tie.Need-add-difference-column-2 Inv-loop μ-loop
+add-difference-column-2 c = omega arith
 
-read-back-requires : tie.Need-read-back-requires Inv-loop μ-loop
-read-back-requires c κs =
+difference-column-requires : tie.Need-difference-column-requires Inv-loop μ-loop
+difference-column-requires c κs =
     let q = c .before .before .before .before .before in
-    (q .pre .0 .boxed, q .pre .0 .held, row-of (c .before))
-
-minus-requires : tie.Need-minus-requires Inv-loop μ-loop
-minus-requires c κs = search needs
-
-add-t16 : tie.Need-add-t16 Inv-loop μ-loop
-add-t16 c = omega arith
-
-mul-t19 : tie.Need-mul-t19 Inv-loop μ-loop
-mul-t19 c = omega arith
-
-slice-set-from-work : tie.Need-slice-set-from-work Inv-loop μ-loop
-slice-set-from-work c = omega arith
-
-add-u : tie.Need-add-u Inv-loop μ-loop
-add-u c = omega arith
-
-add-a : tie.Need-add-a Inv-loop μ-loop
-add-a c = omega arith
+    let l = c .before .before .before .loop in
+    let row : IsRowEnd (widths (q .args .old)) (c .before .lowered-end .result)
+    = record { y = _; z = _; is = c .before .lowered-end .ensures } in
+    ((q .pre .0, row), (omega arith, omega (arith, l .inv .4)))
 
 add-x : tie.Need-add-x Inv-loop μ-loop
 add-x c = omega arith
@@ -168,22 +67,20 @@ loop-less c = omega arith
 
 loop-again : tie.Need-loop-again Inv-loop μ-loop
 loop-again c =
-    let m = c .before in
-    let q = start (m .before) in
+    let q = c .before .before .before .before .before .before .before in
     let l = c .before .before .before .before .before .loop in
-    let work = now (q .args .work) in
-    let k = g (m .before) in
-    let a = c .if1 .a in
-    let stay = stays k k k (l .x) (k - l .u) (l .a) (k - c .if1 .u) a (l .inv .3) in
-    let go = goes-on k k k (l .x) (k - l .u) (l .a) (k - c .if1 .u) a (l .inv .3) in (
+    let end = c .before .before .before .lowered-end .ensures in
+    let d = c .before .difference-column in
+    let W = widths (q .args .old) in
+    let is = column-difference (g q) (l .u) (l .a) (l .x) (l .inv .1) (l .inv .3) W (now (q .args .net))
+    (q .args .y) (q .args .z) in (
       omega arith,
-      ⊎-elim (λ w. omega arith) (λ w. omega arith) (c .if1 .came),
-      ⊎-elim (λ w. omega arith) (λ w. omega arith) (c .if1 .came),
-      ⊎-elim (λ w. stay (omega (arith, w .0 .taken)) (omega (arith, w .1)) (w .2))
-          (λ w. go (omega (arith, w .0 .left, l .inv .1)) (omega (arith, w .1)) (w .2)) (c .if1 .came),
-      simp length-set (l .inv .4),
-      λ f y z ends h e. fills-next f work (l .work) (q .args .i) (l .x) _ (l .inv .5 f y z ends h e)
-          (omega arith) (written m y z ends ∙ sym (h (l .x) (omega arith))),
+      omega arith,
+      omega arith,
+      omega arith,
+      omega (arith, l .inv .4, d .kept),
+      written-next (g q) (numberAt q) (q .args .i) (q .args .w1) (now (q .args .work)) (l .work)
+          (d .last .1 .0) _ (l .x) (omega arith) is (l .inv .5) (d .ensures _ _ end),
     )
 
 same-length : tie.Need-same-length Inv-loop μ-loop
@@ -191,13 +88,10 @@ same-length c = c .before .loop .inv .4
 
 returns : tie.Need-returns Inv-loop μ-loop
 returns c =
-    let q = c .before .before .before .before in
+    let q = c .before .before .before in
     let l = c .before .loop in
-    let work = now (q .args .work) in
-    let done = le-antisymm (l .inv .0) (c .loop-test .left) in
-    let ends = c .before .before .row-ends .ensures in
-    λ f h k. l .inv .5 f (q .args .y) (q .args .z) ends h k
-    ∙ ap (λ (n : ℕ). filled f (q .args .i + n) work) done
+    λ f h. written-all (g q) (numberAt q) (q .args .i) (q .args .w1) (now (q .args .work)) (l .work) (l .x)
+    (omega arith) (l .inv .4) (q .pre .1 .0) (l .inv .5) f h
 
 pub difference-along-spec : {M : Type 1} → statement M
 difference-along-spec =
@@ -205,18 +99,11 @@ difference-along-spec =
     (tie.spec
     Inv-loop
     μ-loop
-    row-ends-requires
     loop-holds
-    mul-e
-    array-read-e
-    read-requires
-    read-back-requires
-    minus-requires
-    add-t16
-    mul-t19
-    slice-set-from-work
-    add-u
-    add-a
+    lowered-end-requires
+    add-difference-column
+    add-difference-column-2
+    difference-column-requires
     add-x
     loop-less
     loop-again

@@ -1,7 +1,7 @@
 -- After t turns the net slice holds what the first t bytes build, over what it held at the start.
 use mathlib.Core.List.{List, []}
 use mathlib.Core.Path.{_∙_, _≡_, ap, refl, sym}
-use Prim.Native.Nat.{_+_, _-_, _≤_, ℕ}
+use Prim.Native.Nat.{_+_, _-_, _<_, _≤_, ℕ}
 use native.Mathlib.Nat.{le-antisymm, le-refl, le-trans}
 use native.Mathlib.Omega.{arith}
 use lib.ListN.{getD, length, take}
@@ -11,12 +11,16 @@ use Rattle.sums.proofs.Fill.{length-filled, rebase-in, refill, take-filled}
 use Rattle.sums.specs.Fill.{filled}
 use Rattle.spline.specs.Box.{netList}
 use Rattle.spline.specs.Build.{direction, orderNet}
-use Rattle.spline.specs.Multiplicities.{more, orderMultiplicities}
+use Rattle.spline.specs.Inner.Limits.{Limits}
+use Rattle.spline.specs.Multiplicities.{Multiplicities, more, orderMultiplicities}
+use Rattle.spline.specs.Place.{Direction}
 use Rattle.shape.specs.Shape.{counted}
 use Rattle.net.proofs.Orders.{good-byte, multiplicities-next, prefix-limits}
 use Rattle.net.proofs.Orders.{prefix-next, prefix-places}
+use Rattle.net.proofs.TakenUp.{between-length, taken-up}
 use Rattle.net.proofs.repeat.run.Statement.{statement}
 use Rattle.net.specs.Order.{orderNumber, orderPlaces, orderWidth}
+use Rattle.net.specs.Repeat.{netRepeated, workBetween}
 use Rattle.net.proofs.repeat.run.Tie as tie
 
 abbrev Inv-loop : tie.InvT-loop
@@ -38,6 +42,15 @@ module _ (l : tie.At-loop Inv-loop μ-loop) where
   abbrev start : tie.Start Inv-loop μ-loop
   start = l .before .before .before .before .before .before .before
 
+  abbrev o : List ℕ
+  o = now (start .args .order)
+
+  abbrev t : ℕ
+  t = l .loop .t
+
+  abbrev d : Direction
+  d = direction (getD o t 0)
+
   -- what the slice holds before the loop
   abbrev base : List ℕ
   base = l .before .before .before .lay-simple .last .0
@@ -46,10 +59,53 @@ module _ (l : tie.At-loop Inv-loop μ-loop) where
   laid-length =
       ap length (l .before .before .before .lay-simple .ensures)
       ∙ length-filled (orderNumber []) 27 (now (start .args .net))
-      (le-trans (prefix-places (now (start .args .order)) 0) (start .pre .1 .0))
+      (le-trans (prefix-places o 0) (start .pre .1 .0))
 
-  net-room : orderPlaces (now (start .args .order)) ≤ length (l .loop .net)
+  net-room : orderPlaces o ≤ length (l .loop .net)
   net-room = omega (arith, l .loop .inv .3, laid-length, start .pre .1 .0)
+
+  -- a byte is taken up
+  module _ (byte : t < length o) where
+    abbrev before : List ℕ
+    before = take t o
+
+    abbrev after : List ℕ
+    after = take (t + 1) o
+
+    good : (1 ≤ getD o t 0) × (getD o t 0 ≤ 4)
+    good = good-byte o (start .pre .0) t byte
+
+    limits : Limits (counted (l .loop .c)) 11
+    limits =
+        prefix-limits o t 11 (counted (l .loop .c)) (l .loop .inv .1) (omega arith)
+        (omega (arith, start .pre .0 .short))
+
+    work-room : orderPlaces o ≤ length (l .loop .work)
+    work-room = omega (arith, start .pre .1 .1, l .loop .inv .4)
+
+    holds : take (orderPlaces before) (l .loop .net) ≡ netList (orderWidth before) (orderNet before)
+    holds = ap (λ (r : List ℕ). take (orderPlaces before) r) (l .loop .inv .2) ∙ held before base
+
+    -- both halves leave what one byte more builds, over what the slice held before the loop
+    repeats : netRepeated d (counted (l .loop .c)) (l .loop .net) (l .loop .work)
+        ≡ filled (orderNumber after) (orderPlaces after) base
+    repeats =
+        ap (λ (v : Multiplicities). netRepeated d v (l .loop .net) (l .loop .work)) (l .loop .inv .1)
+        ∙ taken-up o (start .pre .0) t byte (l .loop .net) (l .loop .work) net-room work-room holds
+        ∙ ap (λ (n : List ℕ). filled (orderNumber after) (orderPlaces after) n) (l .loop .inv .2)
+        ∙ refill (orderNumber after) (orderNumber before) (orderPlaces before) (orderPlaces after) base
+        (prefix-next o t)
+
+    same-room : length (filled (orderNumber after) (orderPlaces after) base) ≡ length base
+    same-room =
+        length-filled (orderNumber after) (orderPlaces after) base
+        (le-trans (prefix-places o (t + 1)) (omega (arith, net-room, l .loop .inv .3)))
+
+    kept : length (workBetween d (counted (l .loop .c)) (l .loop .net) (l .loop .work))
+        ≡ length (l .loop .work)
+    kept =
+        ap (λ (v : Multiplicities). length (workBetween d v (l .loop .net) (l .loop .work))) (l .loop .inv .1)
+        ∙ between-length o (start .pre .0) t byte (l .loop .net) (l .loop .work) net-room work-room holds
 
 lay-simple-requires : tie.Need-lay-simple-requires Inv-loop μ-loop
 lay-simple-requires c κs =
@@ -62,32 +118,14 @@ loop-holds c =
     let laid = c .before .before .lay-simple in
     (omega arith, refl, rebase-in (orderNumber []) net (laid .last .0) 27 (laid .ensures), refl, refl)
 
+shared-slice-read-take-up : tie.Need-shared-slice-read-take-up Inv-loop μ-loop
+shared-slice-read-take-up c = omega arith
+
 take-up-requires : tie.Need-take-up-requires Inv-loop μ-loop
 take-up-requires c κs =
-    let l = c .before .before .before in
-    let s = start l in
-    let p : List ℕ = take (l .loop .t) (now (s .args .order)) in (
-      (s .pre .0, omega arith),
-      (
-        l .loop .inv .1,
-        (
-          (net-room l, omega (arith, s .pre .1 .1, l .loop .inv .4)),
-          ap (λ (r : List ℕ). take (orderPlaces p) r) (l .loop .inv .2) ∙ held p (base l),
-        ),
-      ),
-    )
-
-shared-slice-read-one-more : tie.Need-shared-slice-read-one-more Inv-loop μ-loop
-shared-slice-read-one-more c = omega arith
-
-one-more-requires : tie.Need-one-more-requires Inv-loop μ-loop
-one-more-requires c κs =
-    let l = c .before .before .before .before .before .before .before .before in
-    let s = start l in
-    let o = now (s .args .order) in
-    let g = good-byte o (s .pre .0) (l .loop .t) (omega arith) in
-    let few : 4 + l .loop .t ≤ 11 = omega (arith, s .pre .0 .short) in
-    (g .0, g .1, prefix-limits o (l .loop .t) 11 (counted (l .loop .c)) (l .loop .inv .1) (omega arith) few)
+    let l = c .before .before .before .before in
+    let g = good l (omega arith) in
+    (g .0, g .1, limits l (omega arith))
 
 add-t : tie.Need-add-t Inv-loop μ-loop
 add-t c = omega arith
@@ -97,25 +135,16 @@ loop-less c = omega arith
 
 loop-again : tie.Need-loop-again Inv-loop μ-loop
 loop-again c =
-    let l = c .before .before .before .before .before .before .before .before .before in
-    let s = start l in
-    let o = now (s .args .order) in
-    let t = l .loop .t in
-    let p : List ℕ = take t o in
-    let q : List ℕ = take (t + 1) o in
-    let f = c .before .before .before .before .before .take-up in
-    let r : orderPlaces q ≤ length (l .loop .net) = le-trans (prefix-places o (t + 1)) (net-room l) in (
+    let l = c .before .before .before .before .before .before .before .before in
+    let h : l .loop .t < length (o l) = omega arith in
+    let f = c .before .before .before .take-up in (
       omega arith,
-      c .one-more .ensures
-          ∙ ap (more (direction (getD o t 0))) (l .loop .inv .1)
-          ∙ sym (multiplicities-next o t (omega arith)),
       f .ensures .0
-          ∙ ap (λ (n : List ℕ). filled (orderNumber q) (orderPlaces q) n) (l .loop .inv .2)
-          ∙ refill (orderNumber q) (orderNumber p) (orderPlaces p) (orderPlaces q) (base l) (prefix-next o t),
-      ap length (f .ensures .0)
-          ∙ length-filled (orderNumber q) (orderPlaces q) (l .loop .net) r
-          ∙ l .loop .inv .3,
-      f .ensures .1 ∙ l .loop .inv .4,
+          ∙ ap (more (d l)) (l .loop .inv .1)
+          ∙ sym (multiplicities-next (o l) (l .loop .t) h),
+      f .ensures .1 .1 ∙ repeats l h,
+      ap length (f .ensures .1 .1 ∙ repeats l h) ∙ same-room l h,
+      ap length (f .ensures .1 .0) ∙ kept l h ∙ l .loop .inv .4,
     )
 
 same-length : tie.Need-same-length Inv-loop μ-loop
@@ -148,9 +177,8 @@ run-spec =
     μ-loop
     lay-simple-requires
     loop-holds
+    shared-slice-read-take-up
     take-up-requires
-    shared-slice-read-one-more
-    one-more-requires
     add-t
     loop-less
     loop-again
