@@ -6,6 +6,19 @@
  * call leaves the record and every slice as they were, but for the two work slices of an inspection.
  * docs/SPECIFICATION.md has all.
  *
+ * For users of 0.6.0. 0.7.0 gives a block an origin, o1, o2, o3:
+ *
+ *   - Recompile all that calls the library: the unit record has grown from 12 bytes to 18, and coordinates are signed. A
+ *     caller that is not compiled again still links, and then hands over garbage.
+ *   - Convert the field files that were written for an earlier version: put six zero bytes behind the sizes, as by
+ *     (head -c 6 OLD; head -c 6 /dev/zero; tail -c +7 OLD) > NEW
+ *     A file without them is refused, by 5 where it has one entry, else by 7. So is a new file that lost its last six
+ *     bytes, which converted may load and give wrong figures: copy a refused file again before you convert it.
+ *   - Programs that write field files must write the origin. Buffers of 6 + 4n or 16390 bytes for a file must grow:
+ *     TORSKAVEL_FILE, TORSKAVEL_MAX_FILE. Unit records that you have stored take six zero bytes at their end.
+ *   - Keep your coordinates: with the origin 0, 0, 0 every call answers as it did. C still takes a coordinate from 2^31
+ *     on, as a uint32_t of 4000000000, and hands it over as a negative number: at the origin 0 it meets 12 as before.
+ *
  * What the archive is:
  *
  *   - Code for x86-64 Linux with its C calling convention, SSE2 and no later extension, position independent. A call wants
@@ -48,7 +61,7 @@ extern "C" {
 #endif
 
 #define TORSKAVEL_VERSION_MAJOR 0
-#define TORSKAVEL_VERSION_MINOR 6
+#define TORSKAVEL_VERSION_MINOR 7
 #define TORSKAVEL_VERSION_PATCH 0
 
 /*
@@ -61,14 +74,14 @@ enum torskavel_refused {
     TORSKAVEL_REFUSED_ORDER_BYTE = 2,      /* a byte of the order is not 1 to 4; place: the first such byte's position */
     TORSKAVEL_REFUSED_MULTIPLICITIES = 3,  /* a multiplicity is 0, or their sum is above 12 */
     TORSKAVEL_REFUSED_NET_LENGTH = 4,      /* the net slice or a work slice is shorter than W1 * W2 * W3 */
-    TORSKAVEL_REFUSED_FILE_HEADER = 5,     /* the file is under 6 bytes */
+    TORSKAVEL_REFUSED_FILE_HEADER = 5,     /* the file is under 12 bytes */
     TORSKAVEL_REFUSED_SIZES = 6,           /* a size is not 1 to 64, or their product is above 4096 */
-    TORSKAVEL_REFUSED_FILE_LENGTH = 7,     /* the file's length is not 6 + 4 * n1 * n2 * n3 */
+    TORSKAVEL_REFUSED_FILE_LENGTH = 7,     /* the file's length is not 12 + 4 * n1 * n2 * n3 */
     TORSKAVEL_REFUSED_UNCERTAINTY = 8,     /* an uncertainty of the file is above 32767; place: the lowest such entry */
     TORSKAVEL_REFUSED_BLOCK_LENGTH = 9,    /* a block slice is shorter than n1 * n2 * n3 */
     TORSKAVEL_REFUSED_DIVISOR = 10,        /* the divisor is 0 or above 4096 */
     TORSKAVEL_REFUSED_DENOMINATOR = 11,    /* the denominator m! * divisor^m would be above 2^48 */
-    TORSKAVEL_REFUSED_OUTSIDE = 12,        /* the point is not inside the block */
+    TORSKAVEL_REFUSED_OUTSIDE = 12,        /* the point is not inside the block; none before its origin is */
     TORSKAVEL_REFUSED_UNMEASURED = 13,     /* the point needs an entry that was never measured; place: the lowest such */
     TORSKAVEL_REFUSED_NET_DIFFERS = 14,    /* the net is not the defined one; place: the lowest index that differs */
     TORSKAVEL_REFUSED_LIVE_DENOMINATOR = 15, /* in the live calls alone: m! * divisor^m is above 2^37 */
@@ -118,8 +131,9 @@ struct torskavel_unit_answer torskavel_inspect(
     int32_t *work, size_t work_length);
 
 /*
- * Loads a field file: n1, n2, n3, then n1 * n2 * n3 corrections (signed), then as many uncertainties, all in 16 bits, the
- * low byte first. Refused by 5, 6, 7, 8, 16, 9, in this order.
+ * Loads a field file: n1, n2, n3, then the origin o1, o2, o3 (signed, two's complement), then n1 * n2 * n3 corrections
+ * (signed likewise), then as many uncertainties, all in 16 bits, the low byte first. So corrections begin at byte 12. The
+ * origin may be any. Refused by 5, 6, 7, 8, 16, 9, in this order.
  *
  * The numbers are written to the first n1 * n2 * n3 elements of corrections and of uncertainties; those past them stay as
  * they are. A refused load writes to neither.
@@ -131,12 +145,15 @@ struct torskavel_unit_answer torskavel_load(
     uint16_t *uncertainties, size_t uncertainties_length);
 
 /*
- * Answers the point (x / divisor, y / divisor, z / divisor), counted in entries of the block, from the lent net and block.
- * Refused by 21, 22, 4, 9, 10, 11, 12, 13, 23, in this order. Writes to no slice.
+ * Answers the point (x / divisor, y / divisor, z / divisor), counted in entries, from the lent net and block. The unit's
+ * origin says where the block stands: its low corner is at (o1, o2, o3). Refused by 21, 22, 4, 9, 10, 11, 12, 13, 23, in
+ * this order. Writes to no slice.
  *
- * On axis b the point is inside where vb + v4 - 1 <= k <= nb - 1 for k, its coordinate divided by the divisor and rounded
- * down; but k is nb - 1 where the coordinate is nb * divisor, the far face. So inside are the coordinates from
- * (vb + v4 - 1) * divisor to nb * divisor, both included; where nb is less than vb + v4, none.
+ * On axis b a coordinate is read from the origin: t is the coordinate less ob * divisor, in unbounded numbers. Where t is
+ * negative the point is before the origin and refused by 12. k is t divided by the divisor and rounded down; but k is
+ * nb - 1 where t is nb * divisor, the far face. The point is inside where vb + v4 - 1 <= k <= nb - 1. So inside are the
+ * coordinates from (ob + vb + v4 - 1) * divisor to (ob + nb) * divisor, both included; where nb is less than vb + v4,
+ * none.
  *
  * 8 and 16 are checks of files alone: lent uncertainties may be any, up to 65535. That of a gap is not looked at and
  * changes no answer, so a block that an earlier version has loaded keeps working.
@@ -146,7 +163,7 @@ struct torskavel_point_answer torskavel_answer(
     const uint32_t *net, size_t net_length,
     const int16_t *corrections, size_t corrections_length,
     const uint16_t *uncertainties, size_t uncertainties_length,
-    uint32_t x, uint32_t y, uint32_t z, uint32_t divisor);
+    int32_t x, int32_t y, int32_t z, uint32_t divisor);
 
 /*
  * The live call: answers a point with the numbers of the exact call, torskavel_answer, as floats. Refused by
@@ -166,30 +183,32 @@ struct torskavel_live_point_answer torskavel_live_answer(
     const uint32_t *net, size_t net_length,
     const int16_t *corrections, size_t corrections_length,
     const uint16_t *uncertainties, size_t uncertainties_length,
-    uint32_t x, uint32_t y, uint32_t z, uint32_t divisor,
+    int32_t x, int32_t y, int32_t z, uint32_t divisor,
     uint8_t with_uncertainty);
 
 /*
  * The placing call: places a point, for torskavel_value and torskavel_live_value. One placing serves any number of blocks
- * of these sizes, say those of the two axes of a stage. Refused by 21, 22, 10, 11, 12, in this order, as torskavel_answer
- * refuses the point where neither 4 nor 9 applies.
+ * of these sizes and this origin, say those of the two axes of a stage. Refused by 21, 22, 10, 11, 12, in this order, as
+ * torskavel_answer refuses the point where neither 4 nor 9 applies.
  */
 struct torskavel_placing_answer torskavel_place(
-    struct torskavel_unit unit, uint32_t x, uint32_t y, uint32_t z, uint32_t divisor);
+    struct torskavel_unit unit, int32_t x, int32_t y, int32_t z, uint32_t divisor);
 
 /*
  * The valuing call: answers what torskavel_answer answers at the point that a placing stands for, from the lent net and
  * block. Refused by 21, 22, 17, 4, 9, 13, 23, in this order. Writes to no slice.
  *
  * The divisor is l0 + l1 + l2 + l3. The remainders are l1 + l2 + l3 on axis p, l2 + l3 on axis r and l3 on axis s, and the
- * point's coordinate on axis b is kb * divisor + its remainder. 17 is for a placing that torskavel_place gives for no
- * coordinates and divisor of this unit. It gives exactly those with
+ * point's coordinate on axis b is (ob + kb) * divisor + its remainder. The origin is not in a placing, and is not looked
+ * at here. 17 is for a placing that torskavel_place gives for no coordinates and divisor of this unit. It gives exactly
+ * those with
  *
  *   - p, r, s: 1, 2, 3 in some order, p < r where l1 is 0 and r < s where l2 is 0;
  *   - a divisor from 1 to 4096, and m! * divisor^m up to 2^48;
  *   - on each axis b vb + v4 - 1 <= kb <= nb - 1, and kb = nb - 1 where the remainder is the divisor (the far face).
  *
- * So a placing from a unit with other multiplicities or sizes is refused, or stands for the same coordinates here.
+ * So a placing from a unit with other multiplicities, sizes or origin is refused, or stands for the same coordinates here,
+ * each read from its unit's origin.
  */
 struct torskavel_point_answer torskavel_value(
     struct torskavel_unit unit,

@@ -2,6 +2,9 @@
 //! does, and what the archive needs, stands in torskavel.h. The functions are safe: every Rust slice keeps what a C caller
 //! owes, and Rust rounds to nearest. Beside this file stand torskavel_calls.rs, torskavel_layout.rs and
 //! torskavel_limits.rs.
+//!
+//! For users of 0.6.0: coordinates are `i32` now, and a literal of `Unit` wants `o1`, `o2` and `o3`, zeros for the block
+//! that you had. torskavel.h has the rest.
 
 // A program may use any part of this file.
 #![allow(dead_code, unused_imports)]
@@ -19,7 +22,7 @@ pub use layout::*;
 pub use limits::*;
 
 pub const VERSION_MAJOR: u32 = 0;
-pub const VERSION_MINOR: u32 = 6;
+pub const VERSION_MINOR: u32 = 7;
 pub const VERSION_PATCH: u32 = 0;
 
 /// The numbers of refusals, and 0 for none.
@@ -78,14 +81,15 @@ pub fn load(unit: Unit, file: &[u8], corrections: &mut [i16], uncertainties: &mu
     unsafe { torskavel_load(unit, file.as_ptr(), file.len(), c, c_length, u, u_length) }
 }
 
-/// The point's coordinates are over the divisor. The far face of axis b, where the coordinate is nb times the divisor, is
-/// inside; where nb is less than vb + v4, nothing is.
+/// The point's coordinates are over the divisor, and read from the block's origin: on axis b the coordinate less ob
+/// times the divisor counts, and where that is negative the point is refused by 12. The far face of axis b, where the
+/// coordinate is (ob + nb) times the divisor, is inside; where nb is less than vb + v4, nothing is.
 pub fn answer(
     unit: Unit,
     net: &[u32],
     corrections: &[i16],
     uncertainties: &[u16],
-    [x, y, z]: [u32; 3],
+    [x, y, z]: [i32; 3],
     divisor: u32,
 ) -> PointAnswer {
     let (net, net_length) = (net.as_ptr(), net.len());
@@ -102,7 +106,7 @@ pub fn live_answer(
     net: &[u32],
     corrections: &[i16],
     uncertainties: &[u16],
-    [x, y, z]: [u32; 3],
+    [x, y, z]: [i32; 3],
     divisor: u32,
     with_uncertainty: bool,
 ) -> LivePointAnswer {
@@ -113,13 +117,13 @@ pub fn live_answer(
     unsafe { torskavel_live_answer(unit, net, net_length, c, c_length, u, u_length, x, y, z, divisor, flag) }
 }
 
-/// Places a point once, for `value` and `live_value` over any number of blocks of these sizes.
-pub fn place(unit: Unit, [x, y, z]: [u32; 3], divisor: u32) -> PlacingAnswer {
+/// Places a point once, for `value` and `live_value` over any number of blocks of these sizes and this origin.
+pub fn place(unit: Unit, [x, y, z]: [i32; 3], divisor: u32) -> PlacingAnswer {
     torskavel_place(unit, x, y, z, divisor)
 }
 
 /// What `answer` gives at the point that a placing stands for. A placing that no point of the unit has is refused
-/// by 17.
+/// by 17. The origin is not looked at: the cell of a placing counts from the block's first entry.
 pub fn value(unit: Unit, net: &[u32], corrections: &[i16], uncertainties: &[u16], placing: Placing) -> PointAnswer {
     let (net, net_length) = (net.as_ptr(), net.len());
     let (c, c_length) = (corrections.as_ptr(), corrections.len());

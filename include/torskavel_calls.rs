@@ -44,9 +44,9 @@ unsafe extern "C" {
         corrections_length: usize,
         uncertainties: *const u16,
         uncertainties_length: usize,
-        x: u32,
-        y: u32,
-        z: u32,
+        x: i32,
+        y: i32,
+        z: i32,
         divisor: u32,
     ) -> PointAnswer;
     pub fn torskavel_live_answer(
@@ -57,13 +57,13 @@ unsafe extern "C" {
         corrections_length: usize,
         uncertainties: *const u16,
         uncertainties_length: usize,
-        x: u32,
-        y: u32,
-        z: u32,
+        x: i32,
+        y: i32,
+        z: i32,
         divisor: u32,
         with_uncertainty: u8,
     ) -> LivePointAnswer;
-    pub safe fn torskavel_place(unit: Unit, x: u32, y: u32, z: u32, divisor: u32) -> PlacingAnswer;
+    pub safe fn torskavel_place(unit: Unit, x: i32, y: i32, z: i32, divisor: u32) -> PlacingAnswer;
     pub fn torskavel_value(
         unit: Unit,
         net: *const u32,

@@ -2,7 +2,8 @@
 
 use core::mem::{align_of, offset_of, size_of};
 
-/// What a unit holds. Any bytes may stand in it; of a flag, 1 says present, and every other byte counts as absent.
+/// What a unit holds; `o1`, `o2`, `o3` is the origin of its block, in entries. Any bytes may stand in it; of a flag, 1
+/// says present, and every other byte counts as absent.
 #[repr(C)]
 #[derive(Clone, Copy, PartialEq, Eq, Debug)]
 pub struct Unit {
@@ -15,6 +16,9 @@ pub struct Unit {
     pub n1: u16,
     pub n2: u16,
     pub n3: u16,
+    pub o1: i16,
+    pub o2: i16,
+    pub o3: i16,
 }
 
 /// The placing of a point: its cell, the axes in the order of their remainders, numbered 1, 2, 3, and the four
@@ -76,16 +80,17 @@ pub struct LivePointAnswer {
 }
 
 const _: () = {
-    assert!(size_of::<Unit>() == 12 && align_of::<Unit>() == 2);
+    assert!(size_of::<Unit>() == 18 && align_of::<Unit>() == 2);
     assert!(offset_of!(Unit, has_net) == 0 && offset_of!(Unit, v1) == 1 && offset_of!(Unit, v2) == 2);
     assert!(offset_of!(Unit, v3) == 3 && offset_of!(Unit, v4) == 4 && offset_of!(Unit, has_block) == 5);
     assert!(offset_of!(Unit, n1) == 6 && offset_of!(Unit, n2) == 8 && offset_of!(Unit, n3) == 10);
+    assert!(offset_of!(Unit, o1) == 12 && offset_of!(Unit, o2) == 14 && offset_of!(Unit, o3) == 16);
     assert!(size_of::<Placing>() == 32 && align_of::<Placing>() == 4);
     assert!(offset_of!(Placing, k1) == 0 && offset_of!(Placing, k2) == 4 && offset_of!(Placing, k3) == 8);
     assert!(offset_of!(Placing, p) == 12 && offset_of!(Placing, r) == 13 && offset_of!(Placing, s) == 14);
     assert!(offset_of!(Placing, l0) == 16 && offset_of!(Placing, l1) == 20);
     assert!(offset_of!(Placing, l2) == 24 && offset_of!(Placing, l3) == 28);
-    assert!(size_of::<UnitAnswer>() == 32 && align_of::<UnitAnswer>() == 8);
+    assert!(size_of::<UnitAnswer>() == 40 && align_of::<UnitAnswer>() == 8);
     assert!(offset_of!(UnitAnswer, number) == 0 && offset_of!(UnitAnswer, place) == 8);
     assert!(offset_of!(UnitAnswer, unit) == 16);
     assert!(size_of::<PlacingAnswer>() == 48 && align_of::<PlacingAnswer>() == 8);

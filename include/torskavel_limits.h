@@ -20,7 +20,7 @@
 #define TORSKAVEL_MAX_PLACES 753571
 #define TORSKAVEL_MAX_SIZE 64
 #define TORSKAVEL_MAX_ENTRIES 4096
-#define TORSKAVEL_MAX_FILE 16390
+#define TORSKAVEL_MAX_FILE 16396
 #define TORSKAVEL_MAX_UNCERTAINTY 32767
 #define TORSKAVEL_MAX_DIVISOR 4096
 #define TORSKAVEL_MAX_DENOMINATOR UINT64_C(281474976710656)
@@ -42,6 +42,6 @@
 /* For three sizes, the entries of their block and the bytes of its file. Entry (j1, j2, j3) has the index
    j1 + n1 * (j2 + n2 * j3). */
 #define TORSKAVEL_ENTRIES(n1, n2, n3) ((size_t)(n1) * (size_t)(n2) * (size_t)(n3))
-#define TORSKAVEL_FILE(n1, n2, n3) (6 + 4 * TORSKAVEL_ENTRIES(n1, n2, n3))
+#define TORSKAVEL_FILE(n1, n2, n3) (12 + 4 * TORSKAVEL_ENTRIES(n1, n2, n3))
 
 #endif

@@ -22,7 +22,7 @@ pub const MAX_SIZE: u16 = 64;
 /// The most entries of a block.
 pub const MAX_ENTRIES: usize = 4096;
 /// The bytes of the longest file.
-pub const MAX_FILE: usize = 16390;
+pub const MAX_FILE: usize = 16396;
 /// The largest uncertainty in a file.
 pub const MAX_UNCERTAINTY: u16 = 32767;
 /// The largest divisor of a point.
@@ -50,5 +50,5 @@ pub const fn entries([n1, n2, n3]: [u16; 3]) -> usize {
 
 /// The bytes of the file of a block of three sizes.
 pub const fn file_length(n: [u16; 3]) -> usize {
-    6 + 4 * entries(n)
+    12 + 4 * entries(n)
 }

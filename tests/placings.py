@@ -1,4 +1,5 @@
-"""Placings of points by section 9 of the specification, and the points that they stand for."""
+"""Placings of points by section 9 of the specification, and the points that they stand for. Coordinates are
+those that are read from the block's origin: a placing does not have the origin in it."""
 import math
 
 MAX_DIVISOR, MAX_DENOMINATOR = 4096, 2**48

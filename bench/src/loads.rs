@@ -1,6 +1,7 @@
 //! Loads of a field file.
 
 use crate::hand::{self, Load, Refusal};
+use crate::scene::ORIGIN;
 use crate::table::Row;
 use crate::timing::{Contestant, keep, shortest};
 use crate::torskavel::{self, Unit};
@@ -50,7 +51,8 @@ pub fn by_library(
 }
 
 pub fn measure() -> Row {
-    let file = Block::random(Sizes::new([SIZE; 3]).expect("allowed sizes"), &mut Random::new(1)).file();
+    let block = Block::random(Sizes::new([SIZE; 3]).expect("allowed sizes"), &mut Random::new(1));
+    let file = block.moved_to(ORIGIN).file();
     let unit = torskavel::empty_unit();
     let loads: [Load; 3] = [by_library, hand::load, hand::load_tuned];
 

@@ -89,7 +89,7 @@ impl Stage {
     }
 
     /// Asks both at a point.
-    fn at_point<T>(&self, coordinates: [u32; 3], answer: impl Fn(&Call) -> T) -> [T; 2] {
+    fn at_point<T>(&self, coordinates: [i32; 3], answer: impl Fn(&Call) -> T) -> [T; 2] {
         let Block { corrections, uncertainties, .. } = &self.second;
         let call = self.scene.hand_call(coordinates);
         [answer(&call), answer(&Call { corrections, uncertainties, ..call })]
@@ -107,12 +107,12 @@ type ByHand<'a, H> = Box<dyn Fn(&Valuing<'a>) -> H + 'a>;
 
 impl<'a, L: Told, H: Told> Calls<'a, L, H> {
     /// Nothing where the placing call is refused.
-    fn by_library(&self, stage: &Stage, point: [u32; 3]) -> Option<[L; 2]> {
+    fn by_library(&self, stage: &Stage, point: [i32; 3]) -> Option<[L; 2]> {
         let placed = torskavel::place(stage.scene.unit, point, stage.scene.divisor);
         (placed.number == 0).then(|| stage.at_placing(placed.placing, self.value))
     }
 
-    fn by_hand(&self, shape: usize, stage: &'a Stage, point: [u32; 3]) -> Option<[H; 2]> {
+    fn by_hand(&self, shape: usize, stage: &'a Stage, point: [i32; 3]) -> Option<[H; 2]> {
         let placed = hand::place(stage.scene.unit, point, stage.scene.divisor);
         placed.ok().map(|placing| stage.at_placing(placing, &*self.hand[shape]))
     }

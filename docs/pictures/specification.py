@@ -4,34 +4,22 @@ evaluator answers them.
 
     python3 docs/pictures/specification.py            writes docs/pictures/specification-*.svg
     python3 docs/pictures/specification.py --check    says whether they are current, whether the page's
-                                                      example ends in the evaluator's answer, and whether
+                                                      example is the evaluator's (example.py), and whether
                                                       README.md quotes what is printed
 
 Run after `rt check shares`, and `cargo build --release --offline` in evaluator/.
 """
 import itertools
-import struct
 import subprocess
 import sys
-import tempfile
 from pathlib import Path
 
+from example import CORRECTIONS, DIVISOR, GAP, POINT, ROOT, SHAPE, SIZES, answered, not_said, written
+
 HERE = Path(__file__).resolve().parent
-ROOT = HERE.parents[1]
-PAGE = ROOT / "docs/SPECIFICATION.md"
 SHARES = ROOT / "target/bin/shares"
-sys.path.append(str(ROOT / "tests"))
-from evaluator import ask
 
 INK, RULE, FRAME, PLAIN, MARKED = "#1a1a1a", "#1f5fa8", "#8a8a8a", "#ffffff", "#ffd27f"
-
-# The example of the page: multiplicities, the block's sizes, the point and its divisor, and the one on a
-# far face; the corrections that are not 0.
-SHAPE, SIZES, POINT, DIVISOR = (2, 1, 1, 1), (4, 3, 2), (10, 5, 7), 4
-FACE_POINT = (16, 5, 7)
-GAP = -32768
-CORRECTIONS = {(0, 0, 0): 10, (1, 0, 0): 20, (2, 1, 1): -30, (3, 2, 1): GAP}
-UNCERTAINTY = 3  # but 0 at a gap
 
 
 def svg(width, height, lines):
@@ -92,22 +80,6 @@ def nets_picture():
 # ---- points
 
 
-def file(sizes, corrections):
-    n1, n2, n3 = sizes
-    entries = [corrections.get((j1, j2, j3), 0) for j3 in range(n3) for j2 in range(n2) for j1 in range(n1)]
-    uncertainties, n = [0 if entry == GAP else UNCERTAINTY for entry in entries], len(entries)
-    return struct.pack(f"<3H{n}h{n}H", *sizes, *entries, *uncertainties)
-
-
-def answered(shape, sizes, corrections, point, divisor, *changes):
-    """The words of a point's answer, from the numbers of the lent net with these changes."""
-    with tempfile.NamedTemporaryFile() as lent:
-        lent.write(file(sizes, corrections))
-        lent.flush()
-        words = [*shape, *sizes, *point, divisor, "--file", lent.name, *changes]
-        return ask("lent-point", *words).split()
-
-
 def counted(j):
     """How much entry j counts at the example's point: N where it alone is 1."""
     word, numerator, _, _ = answered(SHAPE, SIZES, {j: 1}, POINT, DIVISOR)
@@ -131,7 +103,7 @@ def window_picture():
         for j2, j1 in itertools.product(range(n2), range(n1)):
             j = (j1, j2, j3)
             correction = CORRECTIONS.get(j, 0)
-            words = ["gap" if correction == GAP else f"{correction}".replace("-", "−")]
+            words = ["gap" if correction == GAP else written(correction)]
             words += [f"{counted(j)}/{whole}"] if in_window(j) else []
             lines += cell(left + j1 * side, 64 + (n2 - 1 - j2) * side, side, in_window(j), *words)
     bottom = 64 + n2 * side + 24
@@ -212,16 +184,6 @@ def pictures():
     yield HERE / "specification-tetrahedra.svg", tetrahedra_picture()
 
 
-def example_holds():
-    """Whether the page's example ends in the evaluator's answer."""
-    _, numerator, uncertainty, denominator = answered(SHAPE, SIZES, CORRECTIONS, POINT, DIVISOR)
-    _, *on_face = answered(SHAPE, SIZES, CORRECTIONS, FACE_POINT, DIVISOR)
-    n, u, d = (number.replace("-", "−") for number in on_face)
-    page = " ".join(PAGE.read_text().split())
-    inner = f"= {numerator}, U = 6·16 = {uncertainty}, and 2!·4² = {denominator}."
-    return inner in page and f"weigh anything: N = {n}, U = {u}, over {d}." in page
-
-
 def readme_quotes():
     """Whether README.md has the prints of `shares` and of the examples, indented."""
     readme = (ROOT / "README.md").read_text()
@@ -235,8 +197,7 @@ def main():
             path.write_text(drawn)
         return
     stale = [path.name for path, drawn in pictures() if not path.exists() or path.read_text() != drawn]
-    if not example_holds():
-        stale.append("the example of the page")
+    stale += [f"the example of the page, which does not say {words}" for words in not_said()]
     if not readme_quotes():
         stale.append("what README.md quotes")
     if stale:

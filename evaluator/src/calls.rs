@@ -76,7 +76,8 @@ mod tests {
     }
 
     /// With a net and a block that break the limits.
-    const BROKEN: Unit = Unit { has_net: true, v: [0, 255, 9, 9], has_block: true, n: [0, 65535, 65] };
+    const BROKEN: Unit =
+        Unit { has_net: true, v: [0, 255, 9, 9], has_block: true, n: [0, 65535, 65], o: [-32768, 32767, -1] };
 
     #[test]
     fn a_factory_call_needs_2197_places() {

@@ -65,9 +65,9 @@ mod tests {
     use crate::unit::{Refusal, Sizes, Unit};
 
     /// The call over the net and the sizes of the example in docs/SPECIFICATION.md, 2.5 and 8.5, at divisor 4.
-    fn call(block: &Block, coordinates: [u32; 3]) -> Call<'_> {
+    fn call(block: &Block, coordinates: [i32; 3]) -> Call<'_> {
         let v = Multiplicities::new([2, 1, 1, 1]).unwrap();
-        let unit = Unit::EMPTY.with_net(v).with_block(block.sizes);
+        let unit = Unit::EMPTY.with_net(v).with_block(block.sizes, block.origin);
         let (corrections, uncertainties) = (&block.corrections[..], &block.uncertainties[..]);
         Call { unit, net_length: v.places(), corrections, uncertainties, coordinates, divisor: 4 }
     }

@@ -78,9 +78,9 @@ mod tests {
     use crate::random::Random;
     use crate::unit::{Sizes, Unit};
 
-    fn ask(v: [usize; 4], block: &Block, coordinates: [u32; 3], divisor: u32, on: bool) -> Live {
+    fn ask(v: [usize; 4], block: &Block, coordinates: [i32; 3], divisor: u32, on: bool) -> Live {
         let multiplicities = Multiplicities::new(v).unwrap();
-        let unit = Unit::EMPTY.with_net(multiplicities).with_block(block.sizes);
+        let unit = Unit::EMPTY.with_net(multiplicities).with_block(block.sizes, block.origin);
         let (net_length, Block { corrections, uncertainties, .. }) = (multiplicities.places(), block);
         let call = Call { unit, net_length, corrections, uncertainties, coordinates, divisor };
         answer(&call, point::answer(&call), on)
@@ -115,8 +115,10 @@ mod tests {
         let ask = |point, divisor| ask([2; 4], &block, point, divisor, true);
         let number = |point, divisor| ask(point, divisor).map_or_else(|refusal| refusal.number, |_| 0);
         for (divisor, inside, outside) in [(64, 0, 12), (65, 15, 15), (297, 15, 15), (298, 11, 11)] {
-            assert_eq!(number([3 * divisor; 3], divisor), inside);
-            assert_eq!(number([3 * divisor - 1; 3], divisor), outside);
+            let first = [3 * divisor as i32; 3];
+            assert_eq!(number(first, divisor), inside);
+            assert_eq!(number(first.map(|c| c - 1), divisor), outside);
+            assert_eq!(number([-1, first[1], i32::MIN], divisor), outside);
         }
         assert_eq!(number([0; 3], 0), 10);
     }

@@ -17,18 +17,18 @@ usage: evaluator COMMAND
   shares-expected           what program shares prints, for each line of the standard input: the bytes typed, in hexadecimal;
                             before each print stands a line with its bytes
 
-  point V1 V2 V3 V4 N1 N2 N3 X Y Z D BLOCK
+  point V1 V2 V3 V4 N1 N2 N3 O1 O2 O3 X Y Z D BLOCK
                             a point's answer by the recurrence
-  lent-point V1 V2 V3 V4 N1 N2 N3 X Y Z D BLOCK [--net FILE] [INDEX=NUMBER ..]
+  lent-point V1 V2 V3 V4 N1 N2 N3 O1 O2 O3 X Y Z D BLOCK [--net FILE] [INDEX=NUMBER ..]
                             a point's answer from the numbers of a lent net: the defined one, or the one in FILE (in the
                             form of command net), with these numbers changed
-                            BLOCK is --file FILE (a field file with sizes N1 N2 N3) or --seed NUMBER
+                            BLOCK is --file FILE (a field file with sizes N1 N2 N3 and origin O1 O2 O3) or --seed NUMBER
   live FLAG ..              a point's live answer, the floats as their bits in hexadecimal; FLAG is 1, or 0 where
                             the uncertainty is switched off, and after it stands what command point takes
   lent-live FLAG ..         the same with what command lent-point takes
-  place V1 V2 V3 V4 N1 N2 N3 X Y Z D
+  place V1 V2 V3 V4 N1 N2 N3 O1 O2 O3 X Y Z D
                             a point's placing: the cell K1 K2 K3, the axis order P R S, the weights L0 L1 L2 L3
-  value-at V1 V2 V3 V4 N1 N2 N3 K1 K2 K3 P R S L0 L1 L2 L3 BLOCK
+  value-at V1 V2 V3 V4 N1 N2 N3 O1 O2 O3 K1 K2 K3 P R S L0 L1 L2 L3 BLOCK
                             the answer at a placing by the recurrence
   live-value-at FLAG ..     the live answer at a placing, with what command value-at takes
 

@@ -32,9 +32,8 @@ fn axis_order(remainder: [u32; 3]) -> [usize; 3] {
 
 impl Placing {
     pub fn of(placed: &Placed) -> Placing {
-        let Placed { divisor, remainder, quotient, sizes, .. } = *placed;
-        let is_far = |b: usize| quotient[b] == sizes.axes()[b];
-        let remainder = [0, 1, 2].map(|b| if is_far(b) { divisor } else { remainder[b] });
+        let Placed { divisor, remainder, .. } = *placed;
+        let remainder = [0, 1, 2].map(|b| if placed.is_far(b) { divisor } else { remainder[b] });
         let order = axis_order(remainder);
         let [p, r, s] = order.map(|b| remainder[b]);
         Placing {
@@ -49,30 +48,30 @@ impl Placing {
         u32::try_from(self.weights.into_iter().map(u64::from).sum::<u64>()).ok()
     }
 
-    /// The coordinates on an axis that a point placed so can have: in the cell those of its three remainders, and the
-    /// cell's end, which may be the far face.
-    fn coordinates(&self, axis: usize, divisor: u32) -> Vec<u32> {
-        let [_, l1, l2, l3] = self.weights.map(u64::from);
-        let (cell, divisor) = (u64::from(self.cell[axis]), u64::from(divisor));
+    /// The coordinates on an axis that a point placed so can have in a block with this origin: in the cell those of its
+    /// three remainders, and the cell's end, which may be the far face.
+    fn coordinates(&self, axis: usize, origin: i16, divisor: u32) -> Vec<i32> {
+        let [_, l1, l2, l3] = self.weights.map(i128::from);
+        let (position, divisor) = (i128::from(origin) + i128::from(self.cell[axis]), i128::from(divisor));
         let remainders = [l3, l2 + l3, l1 + l2 + l3, divisor];
-        remainders.into_iter().filter_map(|u| u32::try_from(cell * divisor + u).ok()).collect()
+        remainders.into_iter().filter_map(|u| i32::try_from(position * divisor + u).ok()).collect()
     }
 }
 
 /// A placing call.
-pub fn place(unit: &Unit, coordinates: [u32; 3], divisor: u32) -> Result<Placing, Refusal> {
+pub fn place(unit: &Unit, coordinates: [i32; 3], divisor: u32) -> Result<Placing, Refusal> {
     point::place(unit, coordinates, divisor).map(|placed| Placing::of(&placed))
 }
 
 /// A point that is placed so, as its coordinates and divisor. Checks 21, 22, 17, in this order.
-pub fn point_of(unit: &Unit, placing: &Placing) -> Result<([u32; 3], u32), Refusal> {
+pub fn point_of(unit: &Unit, placing: &Placing) -> Result<([i32; 3], u32), Refusal> {
     held(unit)?;
     find(unit, placing).ok_or(Refusal::from(17))
 }
 
-fn find(unit: &Unit, placing: &Placing) -> Option<([u32; 3], u32)> {
+fn find(unit: &Unit, placing: &Placing) -> Option<([i32; 3], u32)> {
     let divisor = placing.divisor()?;
-    let [xs, ys, zs] = &[0, 1, 2].map(|axis| placing.coordinates(axis, divisor));
+    let [xs, ys, zs] = &[0, 1, 2].map(|axis| placing.coordinates(axis, unit.o[axis], divisor));
     let mut points = xs.iter().flat_map(|&x| ys.iter().flat_map(move |&y| zs.iter().map(move |&z| [x, y, z])));
     points.find(|&point| place(unit, point, divisor) == Ok(*placing)).map(|point| (point, divisor))
 }

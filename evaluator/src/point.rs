@@ -1,8 +1,9 @@
-//! Points answered by the recurrence: N is the sum over the block of correction times m! D^m M(x - j).
+//! Points answered by the recurrence: N is the sum over the block of correction times m! D^m M(x - o - j).
 //!
 //! No net and no Bernstein sum takes part. Checks 21 to 13 are those of a point call; 23 cannot apply to a defined net.
 //! A far face needs no rule in the sum: the splines are continuous, so that any entry past the block would have the
-//! value 0 there. Only 12 and 13 know of it.
+//! value 0 there. Only 12 and 13 know of it. Nor does the sum know of cells that are counted from the block's origin:
+//! a coordinate over D is a position, which has as its whole part the quotient rounded down, and entry j is at o + j.
 
 use crate::field::NEVER_MEASURED;
 use crate::net::Multiplicities;
@@ -21,7 +22,7 @@ pub struct Call<'a> {
     pub net_length: usize,
     pub corrections: &'a [i16],
     pub uncertainties: &'a [u16],
-    pub coordinates: [u32; 3],
+    pub coordinates: [i32; 3],
     pub divisor: u32,
 }
 
@@ -55,8 +56,10 @@ pub type Exact = Result<Fraction, Refusal>;
 pub struct Placed {
     pub multiplicities: Multiplicities,
     pub sizes: Sizes,
-    /// Of each coordinate by the divisor: n on a far face.
-    pub quotient: [usize; 3],
+    /// The position of the block's first entry.
+    pub origin: [i64; 3],
+    /// The whole part of each coordinate over the divisor, rounded down: o + n on a far face.
+    pub quotient: [i64; 3],
     /// 0 on a far face.
     pub remainder: [u32; 3],
     pub divisor: u32,
@@ -65,10 +68,15 @@ pub struct Placed {
 }
 
 impl Placed {
-    /// k on each axis: a far face belongs to the last cell.
+    /// Whether the point is on the far face of an axis.
+    pub fn is_far(&self, axis: usize) -> bool {
+        self.quotient[axis] == self.origin[axis] + self.sizes.axes()[axis] as i64
+    }
+
+    /// k on each axis, counted from the block's first entry: a far face belongs to the last cell.
     pub fn cell(&self) -> [usize; 3] {
-        let axes = self.sizes.axes();
-        [0, 1, 2].map(|b| self.quotient[b].min(axes[b] - 1))
+        let entry = |b: usize| self.quotient[b] - i64::from(self.is_far(b));
+        [0, 1, 2].map(|b| usize::try_from(entry(b) - self.origin[b]).expect("no point inside is before the origin"))
     }
 
     /// The entries j of the window with their indices, which ascend.
@@ -77,6 +85,13 @@ impl Placed {
         let within = move |j: &[usize; 3]| (0..3).all(|b| j[b] <= cell[b] && cell[b] < j[b] + extents[b]);
         (0..self.sizes.entries()).map(|index| (index, self.sizes.entry(index))).filter(move |(_, j)| within(j))
     }
+}
+
+/// The coordinate that is so many entries, and so much over the divisor, past the origin of an axis; where it has more
+/// than 32 bits, the nearest that has not.
+pub fn coordinate(origin: i16, entries: usize, more: i64, divisor: u32) -> i32 {
+    let exact = (i64::from(origin) + entries as i64) * i64::from(divisor) + more;
+    exact.clamp(i32::MIN.into(), i32::MAX.into()) as i32
 }
 
 /// m! D^m for an allowed divisor.
@@ -95,9 +110,10 @@ pub fn largest_divisor_within(degree: usize, limit: i128) -> u32 {
     (1..=LARGEST_DIVISOR).rev().find(passes).expect("9! is within the limit")
 }
 
-/// Whether a coordinate is inside on an axis, the far face included.
-fn inside(extent: usize, size: usize, coordinate: u32, divisor: u32) -> bool {
-    let (first, last) = ((extent as u32 - 1) * divisor, size as u32 * divisor);
+/// Whether a coordinate is inside on an axis: at one of the two ends that origin, size and extent give it, or between
+/// them.
+fn inside(extent: usize, size: usize, origin: i64, coordinate: i64, divisor: i64) -> bool {
+    let [first, last] = [extent - 1, size].map(|entries| (origin + entries as i64) * divisor);
     extent <= size && (first..=last).contains(&coordinate)
 }
 
@@ -129,15 +145,16 @@ pub fn denominator_of(call: &Call) -> Result<i128, Refusal> {
 }
 
 /// The checks of a placing call: 21, 22, 10, 11, 12.
-pub fn place(unit: &Unit, coordinates: [u32; 3], divisor: u32) -> Result<Placed, Refusal> {
+pub fn place(unit: &Unit, coordinates: [i32; 3], divisor: u32) -> Result<Placed, Refusal> {
     let (multiplicities, sizes) = held(unit)?;
     let denominator = allowed(multiplicities.degree(), divisor)?;
-    let (extents, axes) = (multiplicities.extents(), sizes.axes());
-    let inside = (0..3).all(|b| inside(extents[b], axes[b], coordinates[b], divisor));
+    let (extents, axes, origin) = (multiplicities.extents(), sizes.axes(), unit.o.map(i64::from));
+    let (coordinates, by) = (coordinates.map(i64::from), i64::from(divisor));
+    let inside = (0..3).all(|b| inside(extents[b], axes[b], origin[b], coordinates[b], by));
     refuse_if(!inside, 12)?;
-    let quotient = coordinates.map(|c| (c / divisor) as usize);
-    let remainder = coordinates.map(|c| c % divisor);
-    Ok(Placed { multiplicities, sizes, quotient, remainder, divisor, denominator })
+    let quotient = coordinates.map(|c| c.div_euclid(by));
+    let remainder = coordinates.map(|c| c.rem_euclid(by) as u32);
+    Ok(Placed { multiplicities, sizes, origin, quotient, remainder, divisor, denominator })
 }
 
 /// The checks of a point call but 23: 21, 22, 4, 9, then those of its placing that are left, then 13.
@@ -164,7 +181,7 @@ fn sum_over_block(call: &Call, placed: &Placed, value: impl Fn([i64; 3]) -> i64)
     let (mut numerator, mut uncertainty) = (0, 0);
     for index in 0..placed.sizes.entries() {
         let j = placed.sizes.entry(index);
-        let value = i128::from(value([0, 1, 2].map(|b| placed.quotient[b] as i64 - j[b] as i64)));
+        let value = i128::from(value([0, 1, 2].map(|b| placed.quotient[b] - (placed.origin[b] + j[b] as i64))));
         numerator += value * i128::from(call.corrections[index]);
         uncertainty += value * i128::from(call.uncertainties[index]);
     }
@@ -178,7 +195,7 @@ pub fn answer(call: &Call) -> Exact {
     Ok(sum_over_block(call, &placed, |l| table.at(l)))
 }
 
-/// As `answer`, each M(x - j) by itself and without tables.
+/// As `answer`, each M(x - o - j) by itself and without tables.
 pub fn answer_without_tables(call: &Call) -> Exact {
     let placed = checked(call)?;
     let translates = translates(&placed);

@@ -1,79 +1,42 @@
 //! The commands that take numbers: their arguments, and what they print.
 
+mod arguments;
 pub mod placings;
 
-use crate::field::{self, Block};
+use crate::field::Block;
 use crate::formats::listing;
 use crate::lent;
 use crate::literal;
 use crate::live;
-use crate::net::{Multiplicities, Net};
+use crate::net::Net;
 use crate::point::{self, Call, Exact};
-use crate::random::Random;
 use crate::ratio::Ratio;
-use crate::unit::{Refusal, Sizes, Unit, told};
+use crate::unit::{Refusal, told};
+use arguments::{Held, flag, multiplicities, no_more, numbers};
 use std::fmt::Display;
 use std::fs;
 
-const NUMBERS: usize = 11;
-
 /// A point call as it stands on the command line, and the arguments after it.
 struct Query<'a> {
-    multiplicities: Multiplicities,
+    held: Held,
     block: Result<Block, Refusal>,
-    coordinates: [u32; 3],
+    coordinates: [i32; 3],
     divisor: u32,
     rest: &'a [String],
 }
 
-fn numbers(arguments: &[String]) -> Result<Vec<u32>, String> {
-    arguments.iter().map(|a| a.parse().map_err(|_| format!("{a} is no number of 32 bits"))).collect()
-}
-
-fn multiplicities(numbers: &[u32]) -> Result<Multiplicities, String> {
-    let v = <[u32; 4]>::try_from(numbers).ok().and_then(|v| Multiplicities::new(v.map(|v| v as usize)));
-    v.ok_or_else(|| "four multiplicities, each at least 1, of sum at most 12".to_string())
-}
-
-fn sizes(numbers: &[u32]) -> Result<Sizes, String> {
-    let n = <[u32; 3]>::try_from(numbers).ok().and_then(|n| Sizes::new(n.map(|n| n as usize)));
-    n.ok_or_else(|| "three sizes from 1 to 64, of product at most 4096".to_string())
-}
-
-/// The block of a field file or of a seed; a file may be refused.
-fn block(sizes: Sizes, option: &str, value: &str) -> Result<Result<Block, Refusal>, String> {
-    match option {
-        "--file" => {
-            let block = field::read(&fs::read(value).map_err(|e| format!("{value}: {e}"))?);
-            let fits = block.as_ref().map_or(true, |block| block.sizes == sizes);
-            if fits { Ok(block) } else { Err(format!("{value} has other sizes")) }
-        }
-        "--seed" => {
-            let seed = value.parse().map_err(|_| format!("{value} is no seed"))?;
-            Ok(Ok(Block::random(sizes, &mut Random::new(seed))))
-        }
-        _ => Err("--file or --seed is missing".to_string()),
-    }
-}
-
 fn query(arguments: &[String]) -> Result<Query<'_>, String> {
-    let (head, rest) = arguments.split_at_checked(NUMBERS).ok_or("eleven numbers and a block")?;
-    let numbers = numbers(head)?;
-    let [option, value, rest @ ..] = rest else { return Err("--file or --seed is missing".to_string()) };
-    Ok(Query {
-        multiplicities: multiplicities(&numbers[..4])?,
-        block: block(sizes(&numbers[4..7])?, option, value)?,
-        coordinates: [7, 8, 9].map(|i| numbers[i]),
-        divisor: numbers[10],
-        rest,
-    })
+    let (held, rest) = Held::split(arguments)?;
+    let (point, rest) = rest.split_at_checked(4).ok_or("X Y Z D and a block")?;
+    let ((block, rest), (coordinates, divisor)) = (held.block(rest)?, arguments::point(point)?);
+    Ok(Query { held, block, coordinates, divisor, rest })
 }
 
 /// Runs the call with a net slice of the given length; a refused file is the answer itself.
 fn ask<T: Display>(query: &Query, length: usize, answer: impl Fn(&Call) -> Result<T, Refusal>) -> String {
     let answered = query.block.as_ref().map_err(|refusal| *refusal).and_then(|block| {
         answer(&Call {
-            unit: Unit::EMPTY.with_net(query.multiplicities).with_block(block.sizes),
+            unit: query.held.unit(),
             net_length: length,
             corrections: &block.corrections,
             uncertainties: &block.uncertainties,
@@ -84,23 +47,15 @@ fn ask<T: Display>(query: &Query, length: usize, answer: impl Fn(&Call) -> Resul
     told(&answered) + "\n"
 }
 
-/// Whether a live call is asked for the uncertainty, and the arguments after the flag.
-fn flag(arguments: &[String]) -> Result<(bool, &[String]), String> {
-    match arguments {
-        [flag, rest @ ..] if flag == "0" || flag == "1" => Ok((flag == "1", rest)),
-        _ => Err("a flag, 0 or 1, is missing".to_string()),
-    }
-}
-
 /// M at a point, by the literal recurrence.
 pub fn value(arguments: &[String]) -> Result<String, String> {
-    let numbers = numbers(arguments)?;
-    let [.., x, y, z, divisor] = numbers[..] else { return Err("V1 V2 V3 V4 X Y Z D".to_string()) };
+    let (counts, point) = arguments.split_at_checked(4).ok_or("V1 V2 V3 V4 X Y Z D")?;
+    let [x, y, z, divisor] = numbers::<u32, 4>(point)?;
     if divisor == 0 {
         return Err("a point over 0".to_string());
     }
     let point = [x, y, z].map(|c| Ratio::new(c.into(), divisor.into()));
-    let counts = multiplicities(&numbers[..numbers.len() - 4])?.counts();
+    let counts = multiplicities(counts)?.counts();
     if literal::on_knot_plane(&point) {
         return Err("the point is on a knot plane".to_string());
     }
@@ -109,7 +64,7 @@ pub fn value(arguments: &[String]) -> Result<String, String> {
 }
 
 pub fn net(arguments: &[String]) -> Result<String, String> {
-    Ok(listing(&Net::of(multiplicities(&numbers(arguments)?)?)))
+    Ok(listing(&Net::of(multiplicities(arguments)?)))
 }
 
 pub fn point(arguments: &[String]) -> Result<String, String> {
@@ -136,10 +91,8 @@ fn by_recurrence<T: Display>(
     make: impl Fn(&Call, Exact) -> Result<T, Refusal>,
 ) -> Result<String, String> {
     let query = query(arguments)?;
-    if !query.rest.is_empty() {
-        return Err(format!("{} is too much", query.rest[0]));
-    }
-    Ok(ask(&query, query.multiplicities.places(), |call| make(call, point::answer(call))))
+    no_more(query.rest)?;
+    Ok(ask(&query, query.held.multiplicities.places(), |call| make(call, point::answer(call))))
 }
 
 /// What is made of the exact answer from a lent net.
@@ -152,7 +105,7 @@ fn by_net<T: Display>(
         [option, file, changes @ ..] if option == "--net" => {
             (listed(&fs::read_to_string(file).map_err(|e| format!("{file}: {e}"))?)?, changes)
         }
-        changes => (Net::of(query.multiplicities).numbers, changes),
+        changes => (Net::of(query.held.multiplicities).numbers, changes),
     };
     for change in changes {
         let (index, number) = parse_change(change).ok_or_else(|| format!("{change} is not INDEX=NUMBER"))?;
@@ -200,29 +153,40 @@ fn words(text: &str) -> Vec<String> {
 #[cfg(test)]
 mod tests {
     use super::*;
+    use crate::net::Multiplicities;
 
     #[test]
     fn both_ways_give_one_answer() {
-        let arguments = words("2 1 1 2 5 4 3 30 22 17 7 --seed 9");
+        let arguments = words("2 1 1 2 5 4 3 -2 0 300 16 22 2117 7 --seed 9");
         assert_eq!(point(&arguments), lent_point(&arguments));
         assert!(point(&arguments).unwrap().starts_with("answer "));
     }
 
     #[test]
+    fn a_point_moves_with_the_origin() {
+        let at_zero = words("2 1 1 2 5 4 3 0 0 0 30 22 17 7 --seed 9");
+        assert_eq!(point(&words("2 1 1 2 5 4 3 -2 0 300 16 22 2117 7 --seed 9")), point(&at_zero));
+        let refused = Ok("refused 12 0\n".to_string());
+        assert_eq!(point(&words("2 1 1 2 5 4 3 -2 0 300 16 -1 2117 7 --seed 9")), refused);
+        assert!(point(&words("2 1 1 2 5 4 3 -32769 0 0 30 22 17 7 --seed 9")).is_err());
+        assert!(point(&words("2 1 1 2 5 4 3 0 0 0 30 22 2147483648 7 --seed 9")).is_err());
+    }
+
+    #[test]
     fn a_changed_number_is_refused_by_23() {
         let refused = Ok("refused 23 0\n".to_string());
-        assert_eq!(lent_point(&words("1 1 1 1 2 2 2 1 1 1 1 --seed 9 13=2")), refused);
-        assert_eq!(lent_live(&words("0 1 1 1 1 2 2 2 1 1 1 1 --seed 9 13=2")), refused);
+        assert_eq!(lent_point(&words("1 1 1 1 2 2 2 0 0 0 1 1 1 1 --seed 9 13=2")), refused);
+        assert_eq!(lent_live(&words("0 1 1 1 1 2 2 2 0 0 0 1 1 1 1 --seed 9 13=2")), refused);
     }
 
     #[test]
     fn a_live_answer_begins_by_its_kind() {
         for (flag, kind) in [("1", "both "), ("0", "shift ")] {
-            let arguments = words(&format!("{flag} 2 1 1 2 5 4 3 30 22 17 7 --seed 9"));
+            let arguments = words(&format!("{flag} 2 1 1 2 5 4 3 0 0 0 30 22 17 7 --seed 9"));
             assert!(live(&arguments).unwrap().starts_with(kind));
             assert_eq!(live(&arguments), lent_live(&arguments));
         }
-        assert!(live(&words("2 1 1 1 1 2 2 2 1 1 1 1 --seed 9")).is_err());
+        assert!(live(&words("2 1 1 1 1 2 2 2 0 0 0 1 1 1 1 --seed 9")).is_err());
     }
 
     #[test]

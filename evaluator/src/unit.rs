@@ -32,24 +32,28 @@ impl Sizes {
     }
 }
 
-/// Any values, also such as break the limits.
+/// Where a block's first entry stands, o1, o2, o3, counted in entries.
+pub type Origin = [i16; 3];
+
+/// Any values, also such as break the limits; an origin has none.
 #[derive(Clone, Copy, PartialEq, Eq, Debug)]
 pub struct Unit {
     pub has_net: bool,
     pub v: [u8; 4],
     pub has_block: bool,
     pub n: [u16; 3],
+    pub o: Origin,
 }
 
 impl Unit {
-    pub const EMPTY: Unit = Unit { has_net: false, v: [0; 4], has_block: false, n: [0; 3] };
+    pub const EMPTY: Unit = Unit { has_net: false, v: [0; 4], has_block: false, n: [0; 3], o: [0; 3] };
 
     pub fn with_net(self, multiplicities: Multiplicities) -> Unit {
         Unit { has_net: true, v: multiplicities.counts().map(|v| v as u8), ..self }
     }
 
-    pub fn with_block(self, sizes: Sizes) -> Unit {
-        Unit { has_block: true, n: sizes.0.map(|n| n as u16), ..self }
+    pub fn with_block(self, sizes: Sizes, origin: Origin) -> Unit {
+        Unit { has_block: true, n: sizes.0.map(|n| n as u16), o: origin, ..self }
     }
 
     /// The net that the unit counts as having.
@@ -57,7 +61,7 @@ impl Unit {
         Multiplicities::new(self.v.map(usize::from)).filter(|_| self.has_net)
     }
 
-    /// The block that the unit counts as having.
+    /// The block that the unit counts as having, whatever its origin.
     pub fn block(&self) -> Option<Sizes> {
         Sizes::new(self.n.map(usize::from)).filter(|_| self.has_block)
     }
@@ -66,7 +70,7 @@ impl Unit {
 impl fmt::Display for Unit {
     fn fmt(&self, f: &mut fmt::Formatter) -> fmt::Result {
         let flags = [self.has_net, self.has_block].map(u8::from);
-        write!(f, "{} {} {} {}", flags[0], join(self.v), flags[1], join(self.n))
+        write!(f, "{} {} {} {} {}", flags[0], join(self.v), flags[1], join(self.n), join(self.o))
     }
 }
 
@@ -111,8 +115,9 @@ mod tests {
 
     #[test]
     fn values_that_break_the_limits_count_as_nothing() {
-        let unit = Unit { has_net: true, v: [3; 4], has_block: true, n: [64, 64, 1] };
+        let unit = Unit { has_net: true, v: [3; 4], has_block: true, n: [64, 64, 1], o: [0; 3] };
         assert!(unit.net().is_some() && unit.block().is_some());
+        assert_eq!(Unit { o: [i16::MIN, i16::MAX, -1], ..unit }.block(), unit.block());
         for v in [[0, 1, 1, 1], [3, 3, 3, 4], [255; 4]] {
             assert_eq!(Unit { v, ..unit }.net(), None);
         }

@@ -69,7 +69,7 @@ mod tests {
         assert_eq!(numbers(&call, &net[..2196]), [21, 21]);
         call.unit = call.unit.with_net(v);
         assert_eq!(numbers(&call, &net[..2196]), [22, 22]);
-        call.unit = call.unit.with_block(block.sizes);
+        call.unit = call.unit.with_block(block.sizes, block.origin);
         assert_eq!(numbers(&call, &net[..2196]), [17, 17]);
         call.placing.order = [1, 2, 3];
         assert_eq!(numbers(&call, &net[..2196]), [4, 15]);

@@ -1,6 +1,7 @@
 /* A unit from C: the factory's net is copied and inspected, a field file loaded, points answered, exactly and
-   live, a point placed once for both axes of a stage, and another net built. Run with the paths of two field
-   files of the same sizes, one for each axis. */
+   live, from a block with an origin too, a point placed once for both axes of a stage, and another net built.
+   Run with the paths of three field files: two of the same sizes, one for each axis, and another that has an
+   origin. */
 #include "torskavel.h"
 
 #include <inttypes.h>
@@ -16,7 +17,7 @@ static int32_t work[PLACES];
 static struct block {
     int16_t corrections[ENTRIES];
     uint16_t uncertainties[ENTRIES];
-} first, second; /* of the two axes */
+} first, second, moved; /* of the two axes, and of the file with an origin */
 static uint8_t file[TORSKAVEL_MAX_FILE + 1]; /* one byte more, so that too long a file is seen */
 
 /* Whether the call was refused; then the line ends with the refusal. */
@@ -72,12 +73,15 @@ static struct torskavel_unit load(struct torskavel_unit unit, size_t length, str
     printf("load %zu bytes: ", length);
     struct torskavel_unit_answer a =
         torskavel_load(unit, file, length, block->corrections, ENTRIES, block->uncertainties, ENTRIES);
-    if (!refused(a.number, a.place)) printf("block %d %d %d\n", a.unit.n1, a.unit.n2, a.unit.n3);
-    return a.unit;
+    const struct torskavel_unit u = a.unit;
+    if (!refused(a.number, a.place)) {
+        printf("block %d %d %d, origin %d %d %d\n", u.n1, u.n2, u.n3, u.o1, u.o2, u.o3);
+    }
+    return u;
 }
 
-static void asked(const char *call, uint32_t x, uint32_t y, uint32_t z, uint32_t divisor) {
-    printf("%s (%" PRIu32 ", %" PRIu32 ", %" PRIu32 ")/%" PRIu32, call, x, y, z, divisor);
+static void asked(const char *call, int32_t x, int32_t y, int32_t z, uint32_t divisor) {
+    printf("%s (%" PRId32 ", %" PRId32 ", %" PRId32 ")/%" PRIu32, call, x, y, z, divisor);
 }
 
 /* Prints the shift and its uncertainty, or the refusal. */
@@ -87,11 +91,16 @@ static void answered(struct torskavel_point_answer a) {
     printf("uncertainty %" PRIu64 "/%" PRIu64 "\n", a.uncertainty, a.denominator);
 }
 
-static void answer(struct torskavel_unit unit, uint32_t x, uint32_t y, uint32_t z, uint32_t divisor) {
+static void answer_by(const struct block *block, struct torskavel_unit unit, int32_t x, int32_t y, int32_t z,
+    uint32_t divisor) {
     asked("point", x, y, z, divisor);
     printf(": ");
     answered(torskavel_answer(
-        unit, net, PLACES, first.corrections, ENTRIES, first.uncertainties, ENTRIES, x, y, z, divisor));
+        unit, net, PLACES, block->corrections, ENTRIES, block->uncertainties, ENTRIES, x, y, z, divisor));
+}
+
+static void answer(struct torskavel_unit unit, int32_t x, int32_t y, int32_t z, uint32_t divisor) {
+    answer_by(&first, unit, x, y, z, divisor);
 }
 
 /* Prints N and U, and what they are once divided, or the refusal. */
@@ -105,7 +114,7 @@ static void live_answered(struct torskavel_live_point_answer a, uint32_t divisor
 }
 
 static void live(
-    struct torskavel_unit unit, uint32_t x, uint32_t y, uint32_t z, uint32_t divisor, bool with_uncertainty) {
+    struct torskavel_unit unit, int32_t x, int32_t y, int32_t z, uint32_t divisor, bool with_uncertainty) {
     asked("live", x, y, z, divisor);
     printf(with_uncertainty ? ": " : ", uncertainty switched off: ");
     struct torskavel_live_point_answer a = torskavel_live_answer(unit, net, PLACES, first.corrections, ENTRIES,
@@ -115,7 +124,7 @@ static void live(
 
 /* Prints the placing, or the refusal. */
 static struct torskavel_placing_answer place(
-    struct torskavel_unit unit, uint32_t x, uint32_t y, uint32_t z, uint32_t divisor) {
+    struct torskavel_unit unit, int32_t x, int32_t y, int32_t z, uint32_t divisor) {
     asked("place", x, y, z, divisor);
     printf(": ");
     const struct torskavel_placing_answer a = torskavel_place(unit, x, y, z, divisor);
@@ -140,6 +149,14 @@ static void value(
     live_answered(torskavel_live_value(unit, net, PLACES, c, ENTRIES, u, ENTRIES, q, true), divisor, true);
 }
 
+/* The load sets the block's origin: coordinates are read from there, and may be negative. */
+static void from_the_origin(struct torskavel_unit unit, const char *path) {
+    unit = load(unit, read_file(path), &moved);
+    answer_by(&moved, unit, -6, -7, -4, 10);
+    answer_by(&moved, unit, 20, -7, -4, 10); /* on the far face of axis 1: 20 is (-4 + 6) * 10 */
+    answer_by(&moved, unit, -41, -7, -4, 10); /* before the origin, which is at -4 * 10 */
+}
+
 /* One placing for both axes of the stage. The point is on the far face of a block with 3 entries on axis 2: in
    a block with 4 entries there no point has this placing. */
 static void stage(struct torskavel_unit unit) {
@@ -152,8 +169,8 @@ static void stage(struct torskavel_unit unit) {
 }
 
 int main(int count, char **words) {
-    if (count != 3) {
-        fprintf(stderr, "usage: %s FIELD-FILE FIELD-FILE\n", words[0]);
+    if (count != 4) {
+        fprintf(stderr, "usage: %s FIELD-FILE FIELD-FILE FIELD-FILE\n", words[0]);
         return 1;
     }
     struct torskavel_unit unit = torskavel_empty_unit();
@@ -171,6 +188,7 @@ int main(int count, char **words) {
     live(unit, 5, 5, 5, 2, false);
     answer(unit, 690, 690, 690, 276); /* the same point, over a divisor that is too large for a live call */
     live(unit, 690, 690, 690, 276, true);
+    from_the_origin(unit, words[3]);
     unit = load(unit, read_file(words[2]), &second);
     stage(unit);
     unit = inspect(unit);

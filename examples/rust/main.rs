@@ -1,6 +1,7 @@
 //! A unit from Rust: the factory's net is copied and inspected, a field file loaded, points answered, exactly
-//! and live, a point placed once for both axes of a stage, and another net built. Run with the paths of two
-//! field files of the same sizes, one for each axis.
+//! and live, from a block with an origin too, a point placed once for both axes of a stage, and another net
+//! built. Run with the paths of three field files: two of the same sizes, one for each axis, and one with an
+//! origin.
 
 #[path = "../../include/torskavel.rs"]
 mod torskavel;
@@ -16,13 +17,15 @@ struct Block {
     uncertainties: Vec<u16>,
 }
 
-/// The slices that the unit's numbers stand in, with a block for each axis of the stage.
+/// The slices that the unit's numbers stand in, with a block for each axis of the stage, and one that has an
+/// origin.
 struct Slices {
     net: Vec<u32>,
     defined: Vec<u32>,
     work: Vec<i32>,
     first: Block,
     second: Block,
+    moved: Block,
 }
 
 impl Slices {
@@ -34,6 +37,7 @@ impl Slices {
             work: vec![0; PLACES],
             first: block(),
             second: block(),
+            moved: block(),
         }
     }
 }
@@ -81,8 +85,9 @@ fn inspect(unit: Unit, slices: &mut Slices) -> Unit {
 
 fn load(unit: Unit, file: &[u8], block: &mut Block) -> Unit {
     let a = torskavel::load(unit, file, &mut block.corrections, &mut block.uncertainties);
-    let Unit { n1, n2, n3, .. } = a.unit;
-    report(&format!("load {} bytes", file.len()), a.number, a.place, format!("block {n1} {n2} {n3}"));
+    let Unit { n1, n2, n3, o1, o2, o3, .. } = a.unit;
+    let given = format!("block {n1} {n2} {n3}, origin {o1} {o2} {o3}");
+    report(&format!("load {} bytes", file.len()), a.number, a.place, given);
     a.unit
 }
 
@@ -92,9 +97,13 @@ fn answered(call: &str, a: PointAnswer) {
     report(call, a.number, a.place, format!("shift {n}/{over}, uncertainty {u}/{over}"));
 }
 
-fn answer(unit: Unit, [x, y, z]: [u32; 3], divisor: u32, Slices { net, first, .. }: &Slices) {
-    let a = torskavel::answer(unit, net, &first.corrections, &first.uncertainties, [x, y, z], divisor);
+fn answer_by(block: &Block, unit: Unit, [x, y, z]: [i32; 3], divisor: u32, net: &[u32]) {
+    let a = torskavel::answer(unit, net, &block.corrections, &block.uncertainties, [x, y, z], divisor);
     answered(&format!("point ({x}, {y}, {z})/{divisor}"), a);
+}
+
+fn answer(unit: Unit, point: [i32; 3], divisor: u32, Slices { net, first, .. }: &Slices) {
+    answer_by(first, unit, point, divisor, net);
 }
 
 /// Prints N and U, and what they are once divided, or the refusal.
@@ -110,7 +119,7 @@ fn live_answered(call: &str, a: LivePointAnswer, divisor: u32, with_uncertainty:
     report(call, a.number, a.place, given);
 }
 
-fn live(unit: Unit, [x, y, z]: [u32; 3], divisor: u32, with: bool, Slices { net, first, .. }: &Slices) {
+fn live(unit: Unit, [x, y, z]: [i32; 3], divisor: u32, with: bool, Slices { net, first, .. }: &Slices) {
     let Block { corrections, uncertainties } = first;
     let a = torskavel::live_answer(unit, net, corrections, uncertainties, [x, y, z], divisor, with);
     let how = if with { "" } else { ", uncertainty switched off" };
@@ -118,7 +127,7 @@ fn live(unit: Unit, [x, y, z]: [u32; 3], divisor: u32, with: bool, Slices { net,
 }
 
 /// Prints the placing, or the refusal, which has no placing to value.
-fn place(unit: Unit, [x, y, z]: [u32; 3], divisor: u32) -> Option<Placing> {
+fn place(unit: Unit, [x, y, z]: [i32; 3], divisor: u32) -> Option<Placing> {
     let a = torskavel::place(unit, [x, y, z], divisor);
     let Placing { k1, k2, k3, p, r, s, l0, l1, l2, l3 } = a.placing;
     let given = format!("cell {k1} {k2} {k3}, axis order {p} {r} {s}, weights {l0} {l1} {l2} {l3}");
@@ -136,6 +145,16 @@ fn value(name: &str, unit: Unit, net: &[u32], block: &Block, placing: Placing) {
     live_answered(&format!("live value, {name}"), a, divisor, true);
 }
 
+/// The load sets the block's origin: coordinates are read from there, and may be negative.
+fn from_the_origin(unit: Unit, file: &[u8], Slices { net, moved, .. }: &mut Slices) {
+    let unit = load(unit, file, moved);
+    // The second is on the far face of axis 1: 20 is -4 + 6, times 10. The third is before the origin, at -4
+    // times 10.
+    for x in [-6, 20, -41] {
+        answer_by(moved, unit, [x, -7, -4], 10, net);
+    }
+}
+
 /// One placing for both axes of the stage. The point is on the far face of a block with 3 entries on axis 2:
 /// in a block with 4 entries there no point has this placing.
 fn stage(unit: Unit, Slices { net, first, second, .. }: &Slices) {
@@ -147,8 +166,8 @@ fn stage(unit: Unit, Slices { net, first, second, .. }: &Slices) {
 
 fn main() {
     let mut paths = std::env::args().skip(1);
-    let mut next = || paths.next().expect("the paths of two field files");
-    let [path, second] = [next(), next()];
+    let mut next = || paths.next().expect("the paths of three field files");
+    let [path, second, moved] = [next(), next(), next()];
     let mut slices = Slices::new();
     let mut unit = torskavel::empty_unit();
     answer(unit, [5, 5, 5], 2, &slices);
@@ -169,6 +188,7 @@ fn main() {
     // the same point, over a divisor that is too large for a live call
     answer(unit, [690, 690, 690], 276, &slices);
     live(unit, [690, 690, 690], 276, true, &slices);
+    from_the_origin(unit, &std::fs::read(moved).unwrap_or_default(), &mut slices);
     unit = load(unit, &std::fs::read(second).unwrap_or_default(), &mut slices.second);
     stage(unit, &slices);
     unit = inspect(unit, &mut slices);

@@ -66,6 +66,9 @@ static void show_records(void) {
     SHOW_FIELD(unit, n1);
     SHOW_FIELD(unit, n2);
     SHOW_FIELD(unit, n3);
+    SHOW_FIELD(unit, o1);
+    SHOW_FIELD(unit, o2);
+    SHOW_FIELD(unit, o3);
     SHOW_SIZE(placing);
     SHOW_FIELD(placing, k1);
     SHOW_FIELD(placing, k2);

@@ -31,7 +31,7 @@ fn show_constants() {
 }
 
 fn show_layouts() {
-    show_fields!("unit", Unit: has_net v1 v2 v3 v4 has_block n1 n2 n3);
+    show_fields!("unit", Unit: has_net v1 v2 v3 v4 has_block n1 n2 n3 o1 o2 o3);
     show_fields!("placing", Placing: k1 k2 k3 p r s l0 l1 l2 l3);
     show_fields!("unit_answer", UnitAnswer: number place unit);
     show_fields!("placing_answer", PlacingAnswer: number place placing);

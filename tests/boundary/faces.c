@@ -1,6 +1,6 @@
-/* Points on the far faces of a block, where a coordinate is nb * divisor: they are answered, a step further is refused, by
-   the exact call and by the live call, in one call and placed first. What is expected was worked out by hand, or is the
-   constant of a block. */
+/* Points on the far faces of a block, where a coordinate is (ob + nb) * divisor: they are answered, a step further is
+   refused, by the exact call and by the live call, in one call and placed first. What is expected was worked out by hand,
+   or is the constant of a block. */
 #include "expect.h"
 #include "live.h"
 #include "placings.h"
@@ -18,7 +18,7 @@ struct both {
     int meets_15;
 };
 
-static struct both answer(struct torskavel_unit unit, uint32_t x, uint32_t y, uint32_t z, uint32_t d) {
+static struct both answer(struct torskavel_unit unit, int32_t x, int32_t y, int32_t z, uint32_t d) {
     const uint64_t over = denominator(TORSKAVEL_DEGREE(unit.v1, unit.v2, unit.v3, unit.v4), d);
     const struct both a = {
         torskavel_answer(unit, LENT, x, y, z, d),
@@ -80,18 +80,35 @@ static void what_counts_nothing(void) {
     EXPECT(refuses(answer(unit, 3, 1, 1, 1), TORSKAVEL_REFUSED_SHARES, 0));
 }
 
-/* A constant block answers the constant on each face, edge and corner, and a step past any of these faces is refused. The
-   other coordinates are the lowest inside. */
-static void constant(const uint8_t v[4], const uint16_t n[3], uint32_t divisor) {
-    const struct torskavel_unit unit = unit_of(v, n, -7, 3);
+/* A constant block answers the constant on each far face, edge and corner, with the lowest coordinate inside on every
+   other axis; a step past a face, or before the lowest, is refused. */
+static void all_faces(struct torskavel_unit unit, const uint8_t v[4], const uint16_t n[3], uint32_t divisor) {
     const uint64_t over = denominator(TORSKAVEL_DEGREE(v[0], v[1], v[2], v[3]), divisor);
-    for (unsigned faces = 1; faces < 8; faces++) {
-        uint32_t at[3];
-        for (size_t b = 0; b < 3; b++) at[b] = divisor * (faces >> b & 1 ? n[b] : v[b] + v[3] - 1u);
-        EXPECT(gives(answer(unit, at[0], at[1], at[2], divisor), -7 * (int64_t)over, 3 * over, over));
+    const int32_t origin[3] = {unit.o1, unit.o2, unit.o3};
+    for (unsigned faces = 0; faces < 8; faces++) {
+        int32_t at[3];
         for (size_t b = 0; b < 3; b++)
-            if (faces >> b & 1)
-                EXPECT(refuses(answer(unit, at[0] + (b == 0), at[1] + (b == 1), at[2] + (b == 2), divisor), OUTSIDE, 0));
+            at[b] = (int32_t)divisor * (origin[b] + (faces >> b & 1 ? n[b] : v[b] + v[3] - 1));
+        EXPECT(gives(answer(unit, at[0], at[1], at[2], divisor), -7 * (int64_t)over, 3 * over, over));
+        for (size_t b = 0; b < 3; b++) {
+            const int32_t step = faces >> b & 1 ? 1 : -1;
+            at[b] += step;
+            EXPECT(refuses(answer(unit, at[0], at[1], at[2], divisor), OUTSIDE, 0));
+            at[b] -= step;
+        }
+    }
+}
+
+/* With the origin 0, about the middle, and at both ends of 16 bits. */
+static void constant(const uint8_t v[4], const uint16_t n[3], uint32_t divisor) {
+    const int16_t most = INT16_MAX, least = INT16_MIN;
+    const int16_t origins[][3] = {{0, 0, 0}, {-3, -2, -1}, {most, least, 5}, {least, most, most}, {-1, 5, least}};
+    struct torskavel_unit unit = unit_of(v, n, -7, 3);
+    for (size_t i = 0; i < sizeof origins / sizeof origins[0]; i++) {
+        unit.o1 = origins[i][0];
+        unit.o2 = origins[i][1];
+        unit.o3 = origins[i][2];
+        all_faces(unit, v, n, divisor);
     }
 }
 

@@ -48,7 +48,7 @@ static int copies(struct torskavel_unit unit, size_t length) {
 }
 
 static void every_length(void) {
-    const struct torskavel_unit held = {1, 3, 1, 1, 2, 1, 4, 3, 3};
+    const struct torskavel_unit held = {1, 3, 1, 1, 2, 1, 4, 3, 3, -2, 300, 7};
     size_t length = 0;
     EXPECT(TORSKAVEL_PLACES(2, 2, 2, 1) == PLACES);
     while (length <= PLACES + BESIDE && copies(held, length)) length++;
@@ -59,7 +59,7 @@ static void every_length(void) {
 /* A record of which each byte takes each value, and one of the same byte throughout: the block half is kept,
    whatever the net half held; a refused call keeps both. The build answers the same unit. */
 static void any_bytes(void) {
-    const struct torskavel_unit held = {1, 3, 1, 1, 2, 1, 4, 3, 3};
+    const struct torskavel_unit held = {1, 3, 1, 1, 2, 1, 4, 3, 3, -2, 300, 7};
     size_t copied = 0, refused = 0, as_built = 0;
     for (size_t at = 0; at <= sizeof held; at++)
         for (unsigned byte = 0; byte < 256; byte++) {
@@ -70,17 +70,17 @@ static void any_bytes(void) {
             refused += copies(unit, PLACES - 1);
             as_built += gives(torskavel_build(unit, order, 3, built, PLACES, work, PLACES), 0, shaped(unit));
         }
-    EXPECT(copied == 13 * 256);
-    EXPECT(refused == 13 * 256);
-    EXPECT(as_built == 13 * 256);
+    EXPECT(copied == 19 * 256);
+    EXPECT(refused == 19 * 256);
+    EXPECT(as_built == 19 * 256);
 }
 
 /* The copied net in use, for a unit that was loaded before: the inspector passes it, a point is answered. At
-   the position 2, 2, 2 entry (1,1,1) counts 6 of 24, the net's number at (4,4,4), and entry (0,1,1) counts 2,
-   that at (8,4,4). */
+   the position 2, 2, 2 from the origin, which is -2, 1, 0, entry (1,1,1) counts 6 of 24, the net's number at
+   (4,4,4), and entry (0,1,1) counts 2, that at (8,4,4). */
 static void in_use(void) {
     static const uint8_t file[TORSKAVEL_FILE(3, 3, 3)] = {
-        3, 0, 3, 0, 3, 0, [6 + 2 * 12] = 40, [6 + 2 * 13] = 100};
+        3, 0, 3, 0, 3, 0, 0xfe, 0xff, 1, 0, 0, 0, [12 + 2 * 12] = 40, [12 + 2 * 13] = 100};
     const struct torskavel_unit empty = torskavel_empty_unit();
     int16_t corrections[ENTRIES];
     uint16_t uncertainties[ENTRIES];
@@ -93,11 +93,11 @@ static void in_use(void) {
     const struct torskavel_unit unit = a.unit;
     EXPECT(gives(torskavel_inspect(unit, 2, 2, 2, 1, net, PLACES, defined, PLACES, work, PLACES), 0, unit));
     const struct torskavel_point_answer exact =
-        torskavel_answer(unit, net, PLACES, corrections, ENTRIES, uncertainties, ENTRIES, 2, 2, 2, 1);
+        torskavel_answer(unit, net, PLACES, corrections, ENTRIES, uncertainties, ENTRIES, 0, 3, 2, 1);
     EXPECT(exact.number == 0 && exact.numerator == 680);
     EXPECT(exact.uncertainty == 120 && exact.denominator == 24);
     const struct torskavel_live_point_answer live =
-        torskavel_live_answer(unit, net, PLACES, corrections, ENTRIES, uncertainties, ENTRIES, 2, 2, 2, 1, 1);
+        torskavel_live_answer(unit, net, PLACES, corrections, ENTRIES, uncertainties, ENTRIES, 0, 3, 2, 1, 1);
     EXPECT(live_gives(live, 0, 0, 680.0, 120.0));
 }
 

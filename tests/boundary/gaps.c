@@ -37,15 +37,17 @@ static struct block with_entry(size_t entry, int16_t correction, uint16_t uncert
 /* Loads a block's file into painted slices: a refused load must leave them and the unit, one that passes must write the
    file's numbers as they are. */
 static int loads(struct block block, size_t room, uint32_t number, size_t place) {
-    const struct torskavel_unit before = {1, 1, 1, 1, 1, 7, 300, 301, 302}, after = {1, 1, 1, 1, 1, 1, 2, 2, 2};
-    uint8_t file[TORSKAVEL_FILE(2, 2, 2)] = {2, 0, 2, 0, 2, 0};
+    const struct torskavel_unit before = {1, 1, 1, 1, 1, 7, 300, 301, 302, 1, 2, 3};
+    const struct torskavel_unit after = {1, 1, 1, 1, 1, 1, 2, 2, 2, TORSKAVEL_NEVER_MEASURED, -1, 5};
+    /* The origin may be the number that marks a gap among the corrections. */
+    uint8_t file[TORSKAVEL_FILE(2, 2, 2)] = {2, 0, 2, 0, 2, 0, 0, 0x80, 0xff, 0xff, 5, 0};
     struct block lent;
     for (size_t i = 0; i < ENTRIES; i++) {
         const uint16_t correction = (uint16_t)block.corrections[i], uncertainty = block.uncertainties[i];
-        file[6 + 2 * i] = (uint8_t)(correction & 255);
-        file[6 + 2 * i + 1] = (uint8_t)(correction >> 8);
-        file[6 + 2 * (ENTRIES + i)] = (uint8_t)(uncertainty & 255);
-        file[6 + 2 * (ENTRIES + i) + 1] = (uint8_t)(uncertainty >> 8);
+        file[12 + 2 * i] = (uint8_t)(correction & 255);
+        file[12 + 2 * i + 1] = (uint8_t)(correction >> 8);
+        file[12 + 2 * (ENTRIES + i)] = (uint8_t)(uncertainty & 255);
+        file[12 + 2 * (ENTRIES + i) + 1] = (uint8_t)(uncertainty >> 8);
     }
     memset(&lent, PAINT, sizeof lent);
     const struct block painted = lent;
@@ -92,9 +94,9 @@ static void order_of_checks(void) {
 }
 
 /* What both calls for a point answer from lent slices: one number and place, N and U. */
-static int answers(const uint16_t n[3], const int16_t *c, const uint16_t *u, uint32_t x,
+static int answers(const uint16_t n[3], const int16_t *c, const uint16_t *u, int32_t x,
                    struct torskavel_point_answer right) {
-    const struct torskavel_unit unit = {1, 1, 1, 1, 1, 1, n[0], n[1], n[2]};
+    const struct torskavel_unit unit = {1, 1, 1, 1, 1, 1, n[0], n[1], n[2], 0, 0, 0};
     const size_t entries = TORSKAVEL_ENTRIES(n[0], n[1], n[2]);
     const struct torskavel_point_answer exact =
         torskavel_answer(unit, net, PLACES, c, entries, u, entries, x, 1, 1, 1);

@@ -1,13 +1,14 @@
 /* Holds every constant of the headers to what the calls do: the last value within each limit passes, the first past it is
    refused, every refusal number is met, and macros give just what a call needs. The live call's are held in
-   live.c, 16 in gaps.c, 17 in placings.c, the places of the factory shape in factory.c. */
+   live.c, 16 in gaps.c, 17 in placings.c, the places of the factory shape in factory.c. Coordinates and origins,
+   which may be any of their types, stand in origins.c. */
 #include "expect.h"
 #include "torskavel.h"
 
 #include <stdlib.h>
 #include <string.h>
 
-/* The field file of these sizes, all numbers 0. */
+/* The field file of these sizes, all numbers 0, the origin too. */
 struct file {
     uint8_t bytes[TORSKAVEL_MAX_FILE + 1];
     size_t length;
@@ -60,7 +61,7 @@ static struct torskavel_unit_answer load(struct torskavel_unit unit, size_t entr
     return a;
 }
 
-static struct torskavel_point_answer answer(struct torskavel_unit unit, uint32_t x, uint32_t y, uint32_t z, uint32_t d) {
+static struct torskavel_point_answer answer(struct torskavel_unit unit, int32_t x, int32_t y, int32_t z, uint32_t d) {
     struct torskavel_point_answer a = torskavel_answer(unit, net, TORSKAVEL_MAX_PLACES, corrections,
         TORSKAVEL_MAX_ENTRIES, uncertainties, TORSKAVEL_MAX_ENTRIES, x, y, z, d);
     note(a.number);
@@ -148,9 +149,9 @@ static void sizes(void) {
     EXPECT(load(empty, TORSKAVEL_MAX_ENTRIES).number == TORSKAVEL_REFUSED_FILE_LENGTH);
     file.length -= 2;
     EXPECT(load(empty, TORSKAVEL_MAX_ENTRIES).number == TORSKAVEL_REFUSED_FILE_LENGTH);
-    file.length = 6;
+    file.length = 12;
     EXPECT(load(empty, TORSKAVEL_MAX_ENTRIES).number == TORSKAVEL_REFUSED_FILE_LENGTH);
-    file.length = 5;
+    file.length = 11;
     EXPECT(load(empty, TORSKAVEL_MAX_ENTRIES).number == TORSKAVEL_REFUSED_FILE_HEADER);
     make_file(TORSKAVEL_MAX_SIZE + 1, 1, 1);
     EXPECT(load(empty, TORSKAVEL_MAX_ENTRIES).number == TORSKAVEL_REFUSED_SIZES);
@@ -163,14 +164,14 @@ static void sizes(void) {
 }
 
 static void set_uncertainty(size_t entries, size_t entry, unsigned number) {
-    file.bytes[6 + 2 * (entries + entry)] = (uint8_t)(number & 255);
-    file.bytes[6 + 2 * (entries + entry) + 1] = (uint8_t)(number >> 8);
+    file.bytes[12 + 2 * (entries + entry)] = (uint8_t)(number & 255);
+    file.bytes[12 + 2 * (entries + entry) + 1] = (uint8_t)(number >> 8);
 }
 
 static void files(void) {
     const struct torskavel_unit empty = torskavel_empty_unit();
     make_file(2, 3, 1);
-    file.bytes[6 + 2 * 4 + 1] = 0x80; /* of entry 4 the correction */
+    file.bytes[12 + 2 * 4 + 1] = 0x80; /* of entry 4 the correction */
     set_uncertainty(6, 5, TORSKAVEL_MAX_UNCERTAINTY);
     EXPECT(load(empty, 6).number == 0);
     EXPECT(corrections[4] == TORSKAVEL_NEVER_MEASURED && uncertainties[5] == TORSKAVEL_MAX_UNCERTAINTY);

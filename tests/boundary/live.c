@@ -19,7 +19,7 @@ static struct torskavel_unit unit_of_degree(
 
 typedef struct torskavel_live_point_answer answer;
 
-static answer live(struct torskavel_unit unit, uint32_t x, uint32_t y, uint32_t z, uint32_t d) {
+static answer live(struct torskavel_unit unit, int32_t x, int32_t y, int32_t z, uint32_t d) {
     return torskavel_live_answer(unit, LENT, x, y, z, d, 1);
 }
 
@@ -72,7 +72,7 @@ static void zeros(void) {
     for (size_t entry = 0; entry < 8; entry++) {
         unit = unit_of_degree(1, n, -7, 5);
         corrections[entry] = 0;
-        const uint32_t x = 1 + (entry & 1), y = 1 + (entry >> 1 & 1), z = 1 + (entry >> 2 & 1);
+        const int32_t x = 1 + (entry & 1), y = 1 + (entry >> 1 & 1), z = 1 + (entry >> 2 & 1);
         EXPECT(gives(live(unit, x, y, z, 1), 0.0, 5.0));
     }
 }
@@ -106,11 +106,12 @@ static void order_of_checks(void) {
     const uint16_t n[3] = {7, 3, 3};
     const struct torskavel_unit held = unit_of_degree(5, n, 1, 1);
     const size_t places = TORSKAVEL_PLACES(5, 1, 1, 1), entries = TORSKAVEL_ENTRIES(7, 3, 3);
-    struct { uint32_t number; size_t places, entries; uint32_t x, d; } steps[] = {
+    struct { uint32_t number; size_t places, entries; int32_t x; uint32_t d; } steps[] = {
         {21, 0, 0, 0, 0}, {22, 0, 0, 0, 0}, {4, places - 1, 0, 0, 0}, {9, places, entries - 1, 0, 0},
         {10, places, entries, 0, 0}, {10, places, entries, 0, 4097}, {11, places, entries, 0, 298},
-        {15, places, entries, 0, 297}, {15, places, entries, 0, 65}, {12, places, entries, 0, 64},
-        {13, places, entries, 384, 64}, {23, places, entries, 384, 64}, {0, places, entries, 384, 64},
+        {15, places, entries, 0, 297}, {15, places, entries, -1, 65}, {12, places, entries, -1, 64},
+        {12, places, entries, 0, 64}, {13, places, entries, 384, 64}, {23, places, entries, 384, 64},
+        {0, places, entries, 384, 64},
     };
     for (size_t i = 0; i < sizeof steps / sizeof steps[0]; i++) {
         struct torskavel_unit unit = held;

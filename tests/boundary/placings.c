@@ -27,7 +27,7 @@ static int is_impossible(unit held, placing q) {
 /* Whether a placing is taken, and valued as its point is answered. */
 static int is_possible(unit held, placing q) {
     const uint32_t d = q.l0 + q.l1 + q.l2 + q.l3, k[3] = {q.k1, q.k2, q.k3};
-    uint32_t x[3];
+    int32_t x[3];
     if (torskavel_value(held, LENT, q).number == IMPOSSIBLE) return 0;
     for (uint32_t b = 1; b <= 3; b++)
         x[b - 1] = k[b - 1] * d + (q.p == b ? q.l1 + q.l2 + q.l3 : q.r == b ? q.l2 + q.l3 : q.l3);
@@ -37,7 +37,7 @@ static int is_possible(unit held, placing q) {
 /* The example of the specification: within a cell, on far faces of axis 1 and of axis 3, and before a gap. */
 static void by_hand(void) {
     const unit held = example();
-    const struct { uint32_t x, y, z; placing placing; uint32_t number; size_t place; int n; unsigned u, over; } points[] = {
+    const struct { int32_t x, y, z; placing placing; uint32_t number; size_t place; int n; unsigned u, over; } points[] = {
         {10, 5, 7, {2, 1, 1, 3, 1, 2, 1, 1, 1, 1}, 0, 0, 40, 96, 32},
         {16, 5, 7, {3, 1, 1, 1, 3, 2, 0, 1, 2, 1}, 0, 0, -30, 96, 32},
         {8, 4, 8, {2, 1, 1, 3, 1, 2, 0, 4, 0, 0}, 0, 0, 0, 96, 32},
@@ -88,9 +88,9 @@ static void all_points(void) {
     const unit held = example();
     for (uint32_t d = 1; d <= 5; d++) {
         size_t placed = 0, same = 0, all = 0;
-        for (uint32_t x = 0; x <= 4 * d + 1; x++)
-            for (uint32_t y = 0; y <= 3 * d + 1; y++)
-                for (uint32_t z = 0; z <= 2 * d + 1; z++) {
+        for (int32_t x = -1; x <= 4 * (int32_t)d + 1; x++)
+            for (int32_t y = -1; y <= 3 * (int32_t)d + 1; y++)
+                for (int32_t z = -1; z <= 2 * (int32_t)d + 1; z++) {
                     all++;
                     placed += torskavel_place(held, x, y, z, d).number == 0;
                     same += in_two_calls(held, x, y, z, d);
@@ -185,9 +185,9 @@ static void order_of_placing(void) {
     const uint16_t n[3] = {7, 3, 3};
     const unit held = unit_of(v, n, 1, 1);
     const placing zeros = {0, 0, 0, 0, 0, 0, 0, 0, 0, 0}, corner = {6, 2, 2, 1, 2, 3, 0, 0, 0, 297};
-    const struct { uint32_t number, x, d; } steps[] = {{21, 0, 0}, {22, 0, 0}, {10, 0, 0}, {10, 0, 4097},
-        {10, 0, UINT32_MAX}, {11, 0, 298}, {11, 0, 4096}, {12, 0, 297}, {12, 5 * 297 - 1, 297}, {12, 7 * 297 + 1, 297},
-        {12, UINT32_MAX, 297}, {0, 7 * 297, 297}};
+    const struct { uint32_t number; int32_t x; uint32_t d; } steps[] = {{21, -1, 0}, {22, -1, 0}, {10, -1, 0},
+        {10, -1, 4097}, {10, 0, UINT32_MAX}, {11, -1, 298}, {11, 0, 4096}, {12, -1, 297}, {12, 0, 297},
+        {12, 5 * 297 - 1, 297}, {12, 7 * 297 + 1, 297}, {12, INT32_MAX, 297}, {12, INT32_MIN, 297}, {0, 7 * 297, 297}};
     for (size_t i = 0; i < sizeof steps / sizeof steps[0]; i++) {
         unit changed = held;
         const uint32_t number = steps[i].number, d = steps[i].d;

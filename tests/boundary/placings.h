@@ -19,7 +19,7 @@ static inline int exact_gives(
 
 /* Whether a placing is valued as the point is answered, by the whole slices, the uncertainty on and switched off. */
 static inline int valued_as(
-    struct torskavel_unit unit, struct torskavel_placing placing, uint32_t x, uint32_t y, uint32_t z, uint32_t d) {
+    struct torskavel_unit unit, struct torskavel_placing placing, int32_t x, int32_t y, int32_t z, uint32_t d) {
     const struct torskavel_point_answer exact = torskavel_answer(unit, LENT, x, y, z, d);
     int same = exact_gives(torskavel_value(unit, LENT, placing), exact.number, exact.place, exact.numerator,
         exact.uncertainty, exact.denominator);
@@ -33,7 +33,7 @@ static inline int valued_as(
 
 /* Whether the two calls give what the one gives: the placing call its refusal, with a placing of zeros, or the
    valuing calls all the rest. */
-static inline int in_two_calls(struct torskavel_unit unit, uint32_t x, uint32_t y, uint32_t z, uint32_t d) {
+static inline int in_two_calls(struct torskavel_unit unit, int32_t x, int32_t y, int32_t z, uint32_t d) {
     const struct torskavel_placing zeros = {0, 0, 0, 0, 0, 0, 0, 0, 0, 0};
     const struct torskavel_placing_answer a = torskavel_place(unit, x, y, z, d);
     if (a.number == 0) return a.place == 0 && valued_as(unit, a.placing, x, y, z, d);

@@ -14,7 +14,8 @@ static uint16_t uncertainties[TORSKAVEL_MAX_ENTRIES];
 #define LENT_PART(places, entries) net, (places), corrections, (entries), uncertainties, (entries)
 #define LENT LENT_PART(TORSKAVEL_MAX_PLACES, TORSKAVEL_MAX_ENTRIES)
 
-/* The unit with the net of v1 to v4, which is built, and a block of one correction and one uncertainty. */
+/* The unit with the net of v1 to v4, which is built, and a block of one correction and one uncertainty, with the origin
+   0, 0, 0. */
 static inline struct torskavel_unit unit_of(
     const uint8_t v[4], const uint16_t n[3], int16_t correction, uint16_t uncertainty) {
     uint8_t order[TORSKAVEL_MAX_ORDER];

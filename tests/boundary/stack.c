@@ -15,7 +15,7 @@ static uint16_t uncertainties[ENTRIES];
 static uint8_t file[TORSKAVEL_MAX_FILE] = {16, 0, 16, 0, 16, 0};
 /* The last entry was never measured, and has an uncertainty. */
 static uint8_t uncertain_gap[TORSKAVEL_MAX_FILE] = {
-    16, 0, 16, 0, 16, 0, [6 + 2 * (ENTRIES - 1) + 1] = 0x80, [6 + 4 * ENTRIES - 2] = 1};
+    16, 0, 16, 0, 16, 0, [12 + 2 * (ENTRIES - 1) + 1] = 0x80, [12 + 4 * ENTRIES - 2] = 1};
 
 static unsigned char stack[STACK] __attribute__((aligned(4096)));
 static struct torskavel_unit unit;

@@ -21,6 +21,7 @@ from stored import keep
 STORED = ROOT / "examples/expected"
 FIELD = ROOT / "examples/machine.field"
 SECOND = ROOT / "examples/second-axis.field"
+ABOUT = ROOT / "examples/about-the-middle.field"
 SHOWN = (6, 6, 6)  # the place whose number is shown of a net
 
 
@@ -36,12 +37,14 @@ def told_exact(word, *numbers):
     return f"shift {shift}/{over}, uncertainty {uncertainty}/{over}"
 
 
-def file_refused(file, sizes):
-    """Number and place where the evaluator refuses a file. A point outside is asked, so that 12 says it passes."""
+def file_refused(file, sizes, origin):
+    """Number and place where the evaluator refuses a file. A point outside is asked, the origin itself, so that 12
+    says it passes."""
     with tempfile.NamedTemporaryFile() as lent:
         lent.write(file)
         lent.flush()
-        _, number, place = ask("point", 1, 1, 1, 1, *sizes, 0, 0, 0, 1, "--file", lent.name).split()
+        call = 1, 1, 1, 1, *sizes, *origin, *origin, 1
+        _, number, place = ask("point", *call, "--file", lent.name).split()
     return None if number == "12" else (number, place)
 
 
@@ -49,7 +52,7 @@ class Unit:
     """A unit with its lent net and block, neither of which it has at first."""
 
     def __init__(self):
-        self.multiplicities = self.sizes = None
+        self.multiplicities = self.block = None  # a block is its sizes, then its origin
         self.damage = {}  # numbers that stand in the lent net in place of the defined ones
         self.lines = []
 
@@ -69,10 +72,11 @@ class Unit:
         return "multiplicities {} {} {} {}, number {} at {}".format(*v, number, SHOWN)
 
     def load(self, file):
-        sizes = struct.unpack_from("<3H", file)
-        refusal = file_refused(file, sizes)
-        self.sizes = self.sizes if refusal else sizes
-        self.tell(f"load {len(file)} bytes", refused(*refusal) if refusal else "block {} {} {}".format(*sizes))
+        block = struct.unpack_from("<3H3h", file)
+        refusal = file_refused(file, block[:3], block[3:])
+        self.block = self.block if refusal else block
+        told = refused(*refusal) if refusal else "block {} {} {}, origin {} {} {}".format(*block)
+        self.tell(f"load {len(file)} bytes", told)
 
     def inspect(self):
         v = self.multiplicities
@@ -80,8 +84,8 @@ class Unit:
         answer = refused(14, differs[0]) if differs else "passed"
         self.tell("inspect {} {} {} {}".format(*v), answer)
 
-    def point(self, *place, divisor=2):
-        self.tell(f"point {place}/{divisor}", told_exact(*self.exact(place, divisor)))
+    def point(self, *place, divisor=2, file=FIELD):
+        self.tell(f"point {place}/{divisor}", told_exact(*self.exact(place, divisor, file)))
 
     def live(self, *place, divisor=2, with_uncertainty=True):
         how = "" if with_uncertainty else ", uncertainty switched off"
@@ -90,24 +94,24 @@ class Unit:
 
     def place(self, *place, divisor=2):
         """The ten numbers of a point's placing, as words; the point is inside."""
-        word, *placed = ask("place", *self.multiplicities, *self.sizes, *place, divisor).split()
+        word, *placed = ask("place", *self.multiplicities, *self.block, *place, divisor).split()
         assert word == "placing"
         told = "cell {} {} {}, axis order {} {} {}, weights {} {} {} {}".format(*placed)
         self.tell(f"place {place}/{divisor}", told)
         return placed
 
-    def value(self, name, placed, *block, sizes=None):
-        """The placing as a unit with blocks of these sizes, or else of its own, values it."""
-        call = *self.multiplicities, *(sizes or self.sizes), *placed, *block
+    def value(self, name, placed, *entries, block=None):
+        """The placing as a unit with this block, or else with its own, values it."""
+        call = *self.multiplicities, *(block or self.block), *placed, *entries
         self.tell(f"value, {name}", told_exact(*ask("value-at", *call).split()))
         divisor = sum(map(int, placed[-4:]))
         self.tell(f"live value, {name}", self.told_floats(divisor, *live("live-value-at", 1, *call)))
 
-    def exact(self, place, divisor):
+    def exact(self, place, divisor, file):
         """What the evaluator says of a point, by the lent net and, where that is whole, by the recurrence."""
         if self.multiplicities is None:
             return "refused", 21
-        call = self.words(place, divisor)
+        call = self.words(place, divisor, file)
         words = ask("lent-point", *call).split()
         if words[0] == "answer" and not self.damage and ask("point", *call).split() != words:
             sys.exit(f"point {place}: the net and the recurrence do not agree")
@@ -115,15 +119,15 @@ class Unit:
 
     def floats(self, place, divisor, with_uncertainty):
         """The same for the live call."""
-        call = int(with_uncertainty), *self.words(place, divisor)
+        call = int(with_uncertainty), *self.words(place, divisor, FIELD)
         words = live("lent-live", *call)
         if not self.damage and live("live", *call) != words:
             sys.exit(f"live {place}: the net and the recurrence do not agree")
         return words
 
-    def words(self, place, divisor):
-        """A call on the lent net and the block, as the evaluator takes it."""
-        call = [*self.multiplicities, *self.sizes, *place, divisor, "--file", FIELD]
+    def words(self, place, divisor, file):
+        """A call on the lent net and the block of a file, as the evaluator takes it."""
+        call = [*self.multiplicities, *self.block, *place, divisor, "--file", file]
         return call + [f"{place}={number}" for place, number in self.damage.items()]
 
     def told_floats(self, divisor, word, *numbers):
@@ -155,11 +159,14 @@ def expected():
     unit.live(5, 5, 5, with_uncertainty=False)
     unit.point(690, 690, 690, divisor=276)
     unit.live(690, 690, 690, divisor=276)
+    unit.load(ABOUT.read_bytes())
+    for x in (-6, 20, -41):
+        unit.point(x, -7, -4, divisor=10, file=ABOUT)
     unit.load(SECOND.read_bytes())
     placed = unit.place(5, 6, 5)
     unit.value("first axis", placed, "--file", FIELD)
     unit.value("second axis", placed, "--file", SECOND)
-    unit.value("another block", placed, "--seed", 1, sizes=(4, 4, 3))  # 17 looks at no entry
+    unit.value("another block", placed, "--seed", 1, block=(4, 4, 3, 0, 0, 0))  # 17 looks at no entry
     unit.inspect()
     unit.damage[0] = 1
     unit.inspect()

@@ -23,13 +23,18 @@ def command_lines(good):
     bad += [(*point, "--pages", "x"), (good, "1", "--refused")]
     for words in bad:
         complained(*words)
-    none = ("-1", "3.4", "", " 1", "1 ", "x", "0x10", "1e3", "4294967296", "9" * 400, b"\xff", "\u0663")
-    for number in none:
-        for at in range(4):
-            words = [2, 2, 2, 1]
-            words[at] = number
-            complained(good, "1", *words, fragment="is no whole number from 0 to 4294967295")
-    return len(bad) + 4 * len(none)
+    none = ["3.4", "", " 1", "1 ", "x", "-", "- 1", "+-1", "0x10", "1e3", "9" * 400, b"\xff", "\u0663"]
+    none += ["\u2212", "\u2212-1", "-\u22121", "1\u22122", "\u2212 1", "\u20131"]  # minus signs, and a dash
+    coordinate, divisor = ("-2147483648", "2147483647"), ("0", "4294967295")
+    past = [("-2147483649", "\u22122147483649", "2147483648"), ("-1", "\u22121", "4294967296")]
+    cases = [(at, number, coordinate) for at in range(3) for number in [*none, *past[0]]]
+    cases += [(3, number, divisor) for number in [*none, *past[1]]]
+    for at, number, (least, most) in cases:
+        words = [2, 2, 2, 1]
+        words[at] = number
+        complained(good, "1", *words, fragment=f"is no whole number from {least} to {most}")
+    complained(good, "1", 2, 2, 2, "--1", fragment="there is no option --1")
+    return len(bad) + len(cases) + 1
 
 
 def files(good, folder):
@@ -86,9 +91,9 @@ LIAR = """
 typedef struct torskavel_{kind}point_answer answer;
 typedef struct torskavel_unit unit;
 answer true_{kind}answer(unit, const uint32_t *, size_t, const int16_t *, size_t, const uint16_t *, size_t,
-    uint32_t, uint32_t, uint32_t, uint32_t{type});
+    int32_t, int32_t, int32_t, uint32_t{type});
 answer torskavel_{kind}answer(unit held, const uint32_t *net, size_t net_length, const int16_t *c,
-    size_t c_length, const uint16_t *u, size_t u_length, uint32_t x, uint32_t y, uint32_t z,
+    size_t c_length, const uint16_t *u, size_t u_length, int32_t x, int32_t y, int32_t z,
     uint32_t d{type}{flag}) {{
     answer answered =
         true_{kind}answer(held, net, net_length, c, c_length, u, u_length, x, y, z, d{comma}{flag});

@@ -4,16 +4,20 @@ import itertools
 import math
 import re
 import shlex
+import struct
+import xml.etree.ElementTree as ElementTree
 from fractions import Fraction
 
 from evaluator import ROOT, net, prints, widths
 from explaining.scene import FACTORY, LARGEST, LARGEST_LIVE
+from explaining.pictures import SVG, check_labels
 from explaining.refusals import NUMBERS
 from explaining.told import numbers, run, same, sections, stop
 
 PAGE = ROOT / "docs/HOW-A-FIGURE-COMES-ABOUT.md"
 FIELD = "examples/table.field"
-UNCERTAIN_GAPS = "examples/uncertain-gaps.field"
+MOVED, OLD = "examples/about-the-middle.field", "examples/without-origin.field"
+FIELDS = FIELD, MOVED, OLD, "examples/uncertain-gaps.field"
 ACTS = {"The fitter acts": "the fitter", "The surveyor acts": "the surveyor", "Firmware acts": "firmware"}
 # Numbers in the lists of refusals that are no limits of the library: bytes of sizes and text, powers, places.
 OTHERS = {0, 1, 2, 4, 6, 14, 37, 48, 49, 52, 2197}
@@ -24,8 +28,7 @@ def printed(command):
     program, *words = shlex.split(command)
     if program == "printf":
         return prints([words[0].replace("\\n", "\n").encode()])[0].splitlines()
-    known = words[0] in (FIELD, UNCERTAIN_GAPS)
-    same(command, "command", (program, known), ("tools/explain/run", True))
+    same(command, "command", (program, words[0] in FIELDS), ("tools/explain/run", True))
     text, _ = run(ROOT / words[0], *words[1:], status=None)
     return text.splitlines()
 
@@ -76,6 +79,9 @@ SIDE = rf"{TERM}(?: [×+−] {TERM})*"
 EQUATION = re.compile(rf"{SIDE}(?: = {SIDE})+")
 
 
+NUMBER = r"-?\d+(?:\.\d+)?"
+
+
 def check_sums(prose):
     """Every equation of numbers or of places is true; the right sides of those of numbers."""
     prose = re.sub(r"\n(?![\n|])", " ", prose)
@@ -91,11 +97,11 @@ def check_sums(prose):
 
 def check_numbers(heading, prose, seen, sums):
     """Every number of the prose is one that was printed there or before, or that an equation comes to."""
-    known = set(re.findall(r"-?\d+(?:\.\d+)?", seen + " ".join(sums).replace("−", "-")))
+    known = set(re.findall(NUMBER, seen + " ".join(sums).replace("−", "-")))
     text = re.sub(r"(?m)^\*\*\d\. |`[^`]*`|\]\([^)]*\)|^\|.*$", "", prose)
     # a minus between two numbers takes away; before one alone it is its sign
     text = re.sub(r"(?<=\d) − ", " ", text).replace("−", "-")
-    found = set(re.findall(r"(?<!\w)-?\d+(?:\.\d+)?", text))
+    found = set(re.findall(rf"(?<!\w){NUMBER}", text))
     same("the help line's page", f"numbers of '{heading}' that are not printed", sorted(found - known), [])
 
 
@@ -160,6 +166,29 @@ def check_divisors(table):
             same("divisors", f"{name} of degree {m}", fits, [True, False])
 
 
+def check_origin(prose):
+    """The picture has the positions that the origin gives the table, and what is read from it."""
+    table, moved, old = ((ROOT / name).read_bytes() for name in (FIELD, MOVED, OLD))
+    files = moved[:6] + bytes(6) + moved[12:], old[:6] + bytes(6) + old[6:]
+    same("the examples", "but for the origin", files, (table, table))
+    sizes, origin = struct.unpack_from("<2H", moved), struct.unpack_from("<2h", moved, 6)
+    [name] = re.findall(r"\(pictures/(.*)\)", prose)
+    svg, case = ElementTree.parse(PAGE.parent / "pictures" / name).getroot(), f"the picture {name}"
+    check_labels(case, svg)
+    texts = [text.text.replace("−", "-") for text in svg.iter(SVG + "text")]
+    labels = [text for text in texts if re.fullmatch(NUMBER, text)]
+    positions = [str(o + i) for o, n in zip(origin, sizes) for i in range(n + 1)]
+    same(case, "labels", labels, positions + [str(cell) for n in sizes for cell in range(n)])
+    said = " ".join(text for text in texts if " - (" in text or text.startswith("= "))
+    for o, found in zip(origin, re.findall(rf"({NUMBER}) - \(({NUMBER})\) = ({NUMBER})", said), strict=True):
+        x, from_x, read = map(Fraction, found)
+        same(case, "read", (from_x, x - from_x), (o, read))
+    ends = [f"{o + 2} to {o + n} on axis {axis}" for axis, (o, n) in enumerate(zip(origin, sizes), 1)]
+    same(case, "inside", texts[-1], "shaded: inside in the factory shape, " + ", ".join(ends))
+    zero = [line for line in svg.iter(SVG + "line") if line.get("class") == "cell"]
+    same(case, "lines of the machine's zero", len(zero), 2)
+
+
 def tried(_folder):
     quotes, by_heading, count = Quotes(), {}, 0
     for heading, prose, boxes in parted(PAGE.read_text()):
@@ -171,6 +200,7 @@ def tried(_folder):
         if boxes:
             check_numbers(heading, prose, quotes.seen, sums)
     check_step(by_heading["What the unit holds"])
+    check_origin(by_heading["What an origin is"])
     check_refusals(by_heading)
     same("the help line's page", "lines and sums enough", quotes.count > 200 and count > 20, True)
     return 2 * len(NUMBERS)

@@ -4,10 +4,10 @@ import itertools
 import math
 import random
 
-from explaining.placings import AXES, MOST, WEIGHTS, alike, section, words
+from explaining.placings import AXES, MOST, WEIGHTS, alike, section
 from explaining.refusals import REFUSED, told
 from explaining.scene import FACTORY, LARGEST, SEED, Scene, random_numbers
-from explaining.told import run, same, sections
+from explaining.told import run, same, sections, words
 from placings import numbers_of, possible, stands_for
 
 ZEROS = [0] * 10
@@ -82,7 +82,8 @@ def valued(scene, numbers):
     is_possible = possible(scene.v, scene.sizes, numbers)
     same(numbers, "rules broken", not list(rules(scene, numbers)), is_possible)
     if is_possible:
-        point, divisor = stands_for(numbers)
+        read, divisor = stands_for(numbers)
+        point = scene.moved(read, divisor)
         status = 0 if scene.evaluated(point, divisor)[0] == "answer" else REFUSED
         alike(scene, point, divisor, status=status)
     else:

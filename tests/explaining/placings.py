@@ -7,19 +7,16 @@ from explaining.page import page
 from explaining.points import ORDERS, answered
 from explaining.refusals import REFUSED, refused, told
 from explaining.scene import FACTORY, LARGEST, SEED, Scene, random_numbers
-from explaining.told import field, run, same, stop
+from explaining.told import field, run, same, stop, words
 from placings import numbers_of, stands_for
 
 AXES, WEIGHTS = slice(3, 6), slice(6, 10)  # of the ten numbers
 MOST = 2**32 - 1
 
 
-def words(numbers):
-    return " ".join(map(str, numbers))
-
-
-def section(numbers, point=None, divisor=None):
-    """What is told of the placing itself."""
+def section(numbers, point=None, divisor=None, is_moved=False):
+    """What is told of the placing itself, and of the point that it stands for, in a table with an origin or
+    without."""
     cell, axes, weights = numbers[:3], numbers[AXES], numbers[WEIGHTS]
     head = f"cell {words(cell)}, axis order {words(axes)}, weights {words(weights)}"
     lines = ["\nThe placing", f"{head}, together {sum(weights)}"]
@@ -27,18 +24,21 @@ def section(numbers, point=None, divisor=None):
         parts = [weights[i:] for i in (1, 2, 3)]
         sums = [" + ".join(map(str, part)) + f" = {sum(part)}" * (len(part) > 1) for part in parts]
         lines.append("remainders: " + ", ".join(f"{u} on axis {axis}" for u, axis in zip(sums, axes)))
-        each = f"on each axis the cell times {divisor}, and the remainder"
+        cell = "the origin and the cell together" if is_moved else "the cell"
+        each = f"on each axis {cell} times {divisor}, and the remainder"
         lines.append(f"it stands for the point {words(point)} over {divisor}: {each}")
     return "\n  ".join(lines) + "\n"
 
 
 def alike(scene, point, divisor, *options, status=0):
     """The placing of a point is told as the point is, but for the title and the placing itself."""
-    placed = numbers_of(point, divisor, scene.sizes)
-    same(placed, "stands for", stands_for(placed), (list(point), divisor))
+    read = scene.read(point, divisor)
+    placed = numbers_of(read, divisor, scene.sizes)
+    same(placed, "stands for", stands_for(placed), (read, divisor))
     text, _ = run(scene.path, scene.order, *point, divisor, *options, status=status)
     right = text.replace(f", point {words(point)} over {divisor}\n", f", placing {words(placed)}\n", 1)
-    right = right.replace("\nThe point\n", section(placed, point, divisor) + "\nThe point\n", 1)
+    told = section(placed, point, divisor, any(scene.origin))
+    right = right.replace("\nThe point\n", told + "\nThe point\n", 1)
     text, _ = run(scene.path, scene.order, "placing", *placed, *options, status=status)
     same(placed, "told", text, right)
 

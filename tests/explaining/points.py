@@ -8,7 +8,7 @@ from fractions import Fraction
 
 from evaluator import ask, net, widths
 from explaining.scene import LARGEST, SEED, Scene, random_numbers
-from explaining.told import Told, field, live, numbers, run, same
+from explaining.told import Told, field, live, numbers, run, same, words
 from placings import placing
 
 
@@ -104,12 +104,26 @@ def shown(fraction, decimals):
     return f"{sign}{whole // 10**decimals}{point}{digits}"
 
 
+def positions(scene, point, divisor):
+    """What is told of a point's position; where the origin is not 0, of what is read from it too."""
+    position = words(shown(Fraction(x, divisor), 3) for x in point)
+    yield f"{words(point)} over {divisor}: position {position}"
+    if any(scene.origin):
+        at, read = (words(scene.moved((0, 0, 0), divisor)), scene.read(point, divisor))
+        position = words(shown(Fraction(t, divisor), 3) for t in read)
+        there = f"read from there the point is {words(read)}, position {position}"
+        yield f"the origin {words(scene.origin)} is at {at} over {divisor}: {there}"
+
+
 def check_faces(case, scene, told, u, divisor):
     """What is said of the far faces that the point is on; without one, nothing."""
     faces, right = [(b + 1, n) for b, n in enumerate(scene.sizes) if u[b] == divisor], []
     for b, n in faces:
         last = f"belongs to the last cell, {n - 1}, with the remainder {divisor}"
-        right.append(f"axis {b}: {n * divisor} = {n} x {divisor} is the far face, which {last}")
+        origin = scene.origin[b - 1]
+        end = f"({origin} + {n})" if origin else n
+        face = f"{(origin + n) * divisor} = {end} x {divisor} is the far face"
+        right.append(f"axis {b}: {face}, which {last}")
     if faces:
         right.append("the first weight is 0, as on every far face: the corner (0, 0, 0) does not count")
         past = ", ".join(f"{n} on axis {b}" for b, n in faces)
@@ -121,7 +135,8 @@ def check_faces(case, scene, told, u, divisor):
 
 def check_plain(case, scene, told, point, divisor):
     """Where the point reads the table, and the plain reading there."""
-    at = [Fraction(x, divisor) - Fraction(extent, 2) for x, extent in zip(point, scene.extents)]
+    read = scene.read(point, divisor)
+    at = [Fraction(t, divisor) - Fraction(extent, 2) for t, extent in zip(read, scene.extents)]
     same(case, "reading", told.reading, [shown(a, 3) for a in at])
     sums = [0, 0]
     for corner in itertools.product((0, 1), repeat=3):
@@ -154,13 +169,15 @@ def check_answer(case, told):
 
 def answered(scene, point, divisor, all_places=False):
     case = f"order {scene.order!r}, point {point} over {divisor}"
-    words = [scene.path, scene.order, *point, divisor] + ["--all"] * all_places
-    text, _ = run(*words)
+    text, _ = run(scene.path, scene.order, *point, divisor, *["--all"] * all_places)
     told = Told(text)
     answer, *figure = scene.evaluated(point, divisor)
     same(case, "answer", ("answer", *told.figure), (answer, *map(int, figure)))
     same(case, "live call", live(text), scene.live(divisor, answer, *figure))
-    cell, u, axes, weights = placing(point, divisor, scene.sizes)
+    cell, u, axes, weights = placing(scene.read(point, divisor), divisor, scene.sizes)
+    origin = [f"origin {words(scene.origin)}: coordinates are read from there"] * any(scene.origin)
+    same(case, "origin", told.origin, origin)
+    same(case, "position", told.position, list(positions(scene, point, divisor)))
     right = (list(scene.v), scene.m, scene.extents, widths(scene.v), list(scene.sizes))
     same(case, "shape", (told.multiplicities, told.degree, told.extents, told.box, told.sizes), right)
     placed = (told.cell, told.remainders, [axis - 1 for axis in told.axes], told.weights)
@@ -184,7 +201,7 @@ def counts(folder):
         *entry, _c, _u, count = numbers(row.replace("no share", "0"))[:6]
         ones = [int(i == scene.index(entry)) for i in range(len(scene.corrections))]
         path.write_bytes(field(sizes, ones, ones))
-        answer = ask("point", *scene.v, *sizes, *point, divisor, "--file", path).split()
+        answer = ask("point", *scene.v, *sizes, 0, 0, 0, *point, divisor, "--file", path).split()
         same(f"entry {entry}", "counts", count, int(answer[1]))
     return 1
 

@@ -4,12 +4,14 @@ import random
 
 from evaluator import ask, prints
 from explaining.faults import complained
+from explaining.points import positions
 from explaining.scene import LARGEST, SEED, Scene, random_numbers
 from explaining.told import field, live, place, run, same, sections, stop
 
 NUMBERS = [*range(1, 18), 21, 22, 23]
 CONCERNED = ("the fitter", "the surveyor", "firmware")
 REFUSED = 1  # the status
+ENDS = -(2**31), 2**31 - 1  # of coordinates
 
 
 def told(case, text):
@@ -50,15 +52,36 @@ WORDS = {
 
 def outside(scene, point, divisor):
     """What is said of each axis that keeps a point outside."""
-    for axis, (x, extent, size) in enumerate(zip(point, scene.extents, scene.sizes), 1):
-        low, high = (extent - 1) * divisor, size * divisor
+    shape = zip(point, scene.origin, scene.extents, scene.sizes)
+    for axis, (x, origin, extent, size) in enumerate(shape, 1):
+        low, high = (origin + extent - 1) * divisor, (origin + size) * divisor
         ends = f"both included: cells {extent - 1} to {size - 1}, the last with the far face"
-        wrong = "too low" if x < low else "past the far face"
+        wrong = "past the far face" if x > high else "too low"
+        if x < origin * divisor:
+            wrong = f"before the origin, which is at {origin * divisor}"
         if size < extent:
             never = "no point is inside with this net and this table, the far face neither"
             yield f"axis {axis}: {size} entries are fewer than the extent {extent}: {never}"
         elif not low <= x <= high:
             yield f"axis {axis}: {x} over {divisor} is {wrong}; inside are {low} to {high}, {ends}"
+
+
+FURTHER = "probe further in; the far face itself is inside"
+SEE_ORIGIN = "probe further in, or see whether the file has the origin that the controller counts from"
+
+
+def inwards(scene, point, divisor):
+    """What to do about a point outside; the origin is named where it is not 0, or the point before it."""
+    if any(size < extent for size, extent in zip(scene.sizes, scene.extents)):
+        return "a table at least as large as the extents, or an order with fewer repeats"
+    return SEE_ORIGIN if any(scene.origin) or min(scene.read(point, divisor)) < 0 else FURTHER
+
+
+def check_point(case, scene, point, divisor, lines):
+    """The position is told, and nothing more of a point before the origin."""
+    right = list(positions(scene, point, divisor))
+    same(case, "position", [line.strip() for line in lines[: len(right)]], right)
+    same(case, "before the origin", len(lines) == len(right), min(scene.read(point, divisor)) < 0)
 
 
 def refused(scene, point, divisor):
@@ -71,6 +94,10 @@ def refused(scene, point, divisor):
     begins(case, text, WORDS[number].format(place(int(index), scene.sizes)))
     [(_, said)] = told(case, text)
     same(case, "axes", said[:-2], list(outside(scene, point, divisor)) if number == "12" else [])
+    if number == "12":
+        same(case, "what to do", said[-1], f"to do: {inwards(scene, point, divisor)}")
+    if divisor:
+        check_point(case, scene, point, divisor, sections(text)[1]["The point"])
     if number in ("10", "11"):
         right = f"to do: send a divisor from 1 to {LARGEST[scene.m - 1]}, the largest for degree {scene.m}"
         same(case, "what to do", said[-1], right)
@@ -84,9 +111,10 @@ def points(folder):
         sizes = tuple(extent + 1 for extent in extents)
         scene = Scene(folder / "refused.field", order, sizes, random_numbers(rng, 99), gaps=[0])
         largest, inside = LARGEST[m - 1], [extent - 1 for extent in extents]
-        beyond = [(b, k) for b in range(3) for k in (inside[b] - 1, sizes[b] + 1, 2**32 - 1)]
+        beyond = [(b, k) for b in range(3) for k in (inside[b] - 1, sizes[b] + 1, -1, *ENDS)]
         beside = [inside[:b] + [k] + inside[b + 1 :] for b, k in beyond]
-        asked = [(inside, 1), (inside, 0), (inside, 4097), (inside, 2**32 - 1), ([2**32 - 1] * 3, 1)]
+        asked = [(inside, 1), (inside, 0), (inside, 4097), (inside, 2**32 - 1), ([-1] * 3, 0)]
+        asked += [([end] * 3, divisor) for end in ENDS for divisor in (1, 2**32 - 1)]
         asked += [(point, 1) for point in beside] + [([n * largest + 1 for n in sizes], largest)]
         asked += [(inside, largest + 1)] if largest < 4096 else []
         seen |= {refused(scene, point, divisor)[0] for point, divisor in asked}
@@ -112,9 +140,8 @@ def small_tables(folder):
     for sizes in ((2, 3, 1), (2, 2, 2), (3, 3, 2), (1, 4, 4)):
         scene = Scene(folder / "small.field", "132", sizes, random_numbers(rng, 9))
         for divisor, step in itertools.product((1, 7), (-1, 0, 1)):
-            number, text = refused(scene, [n * divisor + step for n in sizes], divisor)
+            number, _ = refused(scene, [n * divisor + step for n in sizes], divisor)
             same("a small table", "refused", number, "12")
-            same("a small table", "what to do", "to do: a table at least as large" in text, True)
             count += 1
     return count
 
@@ -125,7 +152,7 @@ def small_tables(folder):
 def files(folder):
     """Files cut off, with something appended, with bad sizes and numbers: as the evaluator refuses them."""
     good = field((2, 2, 2), [0] * 8, [1] * 8)
-    bad = [good[:length] for length in range(len(good))] + [good + b"\n", good * 500, bytes(6), b"\xff" * 9]
+    bad = [good[:length] for length in range(len(good))] + [good + b"\n", good * 500, bytes(6), b"\xff" * 12]
     sizes = (65, 1, 1), (1, 0, 1), (64, 64, 2), (65535, 65535, 65535), (3, 3, 3)
     bad += [field(sizes, [], []) for sizes in sizes]
     bad += [field((2, 2, 2), [0] * 8, [1] * i + [32768] * (8 - i)) for i in range(8)]
@@ -133,7 +160,8 @@ def files(folder):
     for data in bad:
         path.write_bytes(data)
         case = f"a file of {len(data)} bytes that begins {data[:9]}"
-        [answer, number, index] = ask("point", 1, 1, 1, 1, 2, 2, 2, 1, 1, 1, 1, "--file", path).split()
+        call = 1, 1, 1, 1, 2, 2, 2, 0, 0, 0, 1, 1, 1, 1
+        [answer, number, index] = ask("point", *call, "--file", path).split()
         same(case, "evaluated", answer, "refused")
         text, _ = run(path, "", 1, 1, 1, 1, status=REFUSED)
         begins(case, text, WORDS.get(number, number + ": ").format(place(int(index), (2, 2, 2))))
@@ -186,6 +214,7 @@ def asked(folder):
     [(_, said)] = told("--refused 12", run(path, "132", "--refused", 12, 0)[0])
     inside = "axis {}: inside are the positions 2 to {}, both included: cells 2 to {}, the last with the far face"
     same("--refused 12", "axes", said[:-2], [inside.format(b, n, n - 1) for b, n in ((1, 6), (2, 5), (3, 4))])
+    same("--refused 12", "what to do", said[-1], f"to do: {FURTHER}")
     for number in (8, 13, 16):
         text, _ = run(path, "132", "--refused", number, 120)
         begins("no entry", text, f"{number}: entry number 120, which this file does not have")

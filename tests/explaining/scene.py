@@ -16,18 +16,27 @@ FACTORY = "factory"  # in place of an order
 class Scene:
     """A table in a file, and the net of an order, or the factory's."""
 
-    def __init__(self, path, order, sizes, numbers_of, gaps=()):
-        self.path, self.order, self.sizes = path, order, sizes
+    def __init__(self, path, order, sizes, numbers_of, gaps=(), origin=(0, 0, 0)):
+        self.path, self.order, self.sizes, self.origin = path, order, sizes, origin
         self.v = (2, 2, 2, 1) if order == FACTORY else tuple(1 + order.count(d) for d in "1234")
         self.m, self.extents = sum(self.v) - 3, [self.v[b] + self.v[3] for b in range(3)]
         n = math.prod(sizes)
         self.corrections, self.uncertainties = numbers_of(n)
         for gap in gaps:
             self.corrections[gap], self.uncertainties[gap] = GAP, 0
-        path.write_bytes(field(sizes, self.corrections, self.uncertainties))
+        path.write_bytes(field(sizes, self.corrections, self.uncertainties, origin))
 
     def evaluated(self, point, divisor):
-        return ask("point", *self.v, *self.sizes, *point, divisor, "--file", self.path).split()
+        call = *self.v, *self.sizes, *self.origin, *point, divisor
+        return ask("point", *call, "--file", self.path).split()
+
+    def read(self, point, divisor):
+        """A point's coordinates as they are read from the origin."""
+        return [x - o * divisor for x, o in zip(point, self.origin)]
+
+    def moved(self, read, divisor):
+        """The point whose coordinates are read so."""
+        return [x + o * divisor for x, o in zip(read, self.origin)]
 
     def live(self, divisor, answer, *numbers):
         """What is told of the live call, where the exact call is answered or refused with these numbers."""
@@ -55,7 +64,7 @@ class Scene:
         for extent, size, u in zip(self.extents, self.sizes, remainders):
             cell = size - 1 if u == divisor else rng.randrange(extent - 1, size)
             point.append(cell * divisor + u)
-        return point
+        return self.moved(point, divisor)
 
 
 def random_numbers(rng, most):

@@ -1,4 +1,5 @@
 """Runs the program `explain`, and takes apart what it prints. Build it first: `tools/explain/run --help`."""
+import itertools
 import re
 import struct
 import subprocess
@@ -32,10 +33,14 @@ def run(*words, status=0, program=PROGRAM, **streams):
     return (ran.stdout or b"").decode(), complaint
 
 
-def field(sizes, corrections, uncertainties):
+def field(sizes, corrections, uncertainties, origin=(0, 0, 0)):
     """The bytes of a field file."""
     n = len(corrections)
-    return struct.pack(f"<3H{n}h{n}H", *sizes, *corrections, *uncertainties)
+    return struct.pack(f"<3H3h{n}h{n}H", *sizes, *origin, *corrections, *uncertainties)
+
+
+def words(numbers):
+    return " ".join(map(str, numbers))
 
 
 def numbers(text):
@@ -94,8 +99,11 @@ class Told:
         name = "factory shape" if "The factory shape" in self.sections else "order"
         file, order, point = (self.sections["The " + name] for name in ("file", name, "point"))
         *self.sizes, self.entries, self.gaps = matched(file, "sizes")
+        self.origin = [line.strip() for line in file if line.startswith("  origin")]
         *self.multiplicities, self.degree = matched(order, "multiplicities")
         self.extents, self.box = (matched(order, "extents")[i : i + 3] for i in (0, 3))
+        before = itertools.takewhile(lambda line: not line.startswith("  cell "), point)
+        self.position = [line.strip() for line in before]
         self.cell, self.remainders = (matched(point, "cell")[i : i + 3] for i in (0, 3))
         self.axes, self.weights = matched(point, "axis order")[:3], matched(point, "axis order")[3:7]
         self.low, self.high = (matched(point, "window")[i : i + 3] for i in (0, 3))

@@ -10,15 +10,15 @@ import time
 from pathlib import Path
 
 sys.path.append(str(Path(__file__).resolve().parents[1]))
-from explaining import factory, faces, faults, help_line, impossible, live, page, placings, points, refusals
-from explaining import uncertain_gaps
+from explaining import factory, faces, faults, help_line, impossible, live, old_files, origins, page, placings
+from explaining import points, refusals, uncertain_gaps
 
 
 def main():
     began = time.monotonic()
     with tempfile.TemporaryDirectory() as folder:
         parts = points, refusals, uncertain_gaps, faces, live, placings, impossible
-        parts += faults, page, factory, help_line
+        parts += origins, old_files, faults, page, factory, help_line
         counts = [part.tried(Path(folder)) for part in parts]
     print(f"explain: {sum(counts)} runs as the evaluator has it, {time.monotonic() - began:.1f} s")
 

@@ -124,7 +124,8 @@ fn corners(drawing: &mut Drawing, placing: &Placing) {
 
 /// The picture, and what it shows.
 pub fn drawn(placing: &Placing) -> (String, String) {
-    let steps = placing.axes.map(|axis| f64::from(placing.remainders[axis]) / f64::from(placing.divisor));
+    let steps =
+        placing.axes.map(|axis| f64::from(placing.remainders[axis]) / f64::from(placing.point.divisor));
     let mut drawing = Drawing::new(SIZE.0, SIZE.1);
     let faces = far_faces(&mut drawing, placing);
     cube(&mut drawing);
@@ -140,7 +141,7 @@ pub fn drawn(placing: &Placing) -> (String, String) {
          axis {p} (to the right), axis {r} (to the back) and axis {s} (upwards). The dot is the point; its \
          dotted lines go to the remainders, which are parts of {}. A hollow corner has the weight 0.{faces}",
         words(&placing.cell),
-        placing.divisor
+        placing.point.divisor
     );
     let name = format!("tetrahedron with the weights {}", words(&placing.weights));
     (drawing.finished("cell", &name), caption)

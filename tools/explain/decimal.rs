@@ -1,5 +1,8 @@
 //! Fractions as decimals.
 
+/// The decimals of a position and of a figure in tenths of a micrometre.
+pub const DECIMALS: u32 = 3;
+
 /// A fraction with at most so many decimals: without zeros at the end where it is exact, else with all of
 /// them, rounded, halves away from 0.
 pub fn decimal(numerator: i128, denominator: i128, places: u32) -> String {

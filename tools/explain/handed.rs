@@ -37,11 +37,12 @@ impl Handed {
     }
 
     /// Coordinates and divisor of the point that it stands for, where it is possible.
-    pub fn point(&self, net: &Net, block: &Block) -> Option<([u32; 3], u32)> {
+    pub fn point(&self, net: &Net, block: &Block) -> Option<([i32; 3], u32)> {
         let remainders = self.remainders().filter(|_| self.broken(net, block).is_empty())?;
-        // no more than 64 cells and a divisor of 4096: 32 bits are enough
-        let divisor = self.divisor() as u32;
-        Some(([0, 1, 2].map(|b| self.cell[b] * divisor + remainders[b] as u32), divisor))
+        // no more than 64 cells, an origin of 16 bits and a divisor of 4096: 32 bits are enough
+        let divisor = self.divisor() as i32;
+        let position = |b: usize| i32::from(block.origin[b]) + self.cell[b] as i32;
+        Some(([0, 1, 2].map(|b| position(b) * divisor + remainders[b] as i32), divisor as u32))
     }
 
     fn of_divisor(&self, degree: usize) -> Option<String> {

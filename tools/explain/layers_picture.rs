@@ -1,6 +1,6 @@
 //! The window on the table, layer by layer: corrections, gaps, the cell, and how much each entry counts.
 
-use crate::decimal::decimal;
+use crate::decimal::{DECIMALS, decimal};
 use crate::library::{Block, Net};
 use crate::parts::words;
 use crate::placing::{Placing, Window};
@@ -138,7 +138,7 @@ fn percent(parts: i128, denominator: i128) -> String {
 
 /// The picture, and what it shows.
 pub fn drawn(net: &Net, block: &Block, placing: &Placing, window: Window, sums: &Sums) -> (String, String) {
-    let divisor = 2 * i128::from(placing.divisor);
+    let divisor = 2 * i128::from(placing.point.divisor);
     let reading = [0, 1, 2].map(|b| placing.reading(net, b));
     let layers = Layers {
         block,
@@ -148,13 +148,17 @@ pub fn drawn(net: &Net, block: &Block, placing: &Placing, window: Window, sums: 
         shown: [0, 1].map(|b| shown(block.sizes[b], window.low[b], window.high[b])),
         reading: reading.map(|numerator| numerator as f64 / divisor as f64),
     };
-    let [a, b, c] = reading.map(|numerator| decimal(numerator, divisor, 3));
+    let [a, b, c] = reading.map(|numerator| decimal(numerator, divisor, DECIMALS));
+    let counted = match block.origin {
+        [0, 0, 0] => String::new(),
+        origin => format!(" Entries are counted from the table's origin, {}.", words(&origin)),
+    };
     let caption = format!(
         "The layers of the window, j1 to the right and j2 upwards, each entry with its correction. The \
          window has a blue frame; the stronger its colour, the more an entry counts at this point (in \
          percent), and without colour it does not. The entry of the cell {} has a frame of its own. The \
          triangles point to where the point reads the table, at {a} and {b}; they stand on the layers next \
-         to {c}. A gap was never measured. The table has the sizes {}.",
+         to {c}. A gap was never measured. The table has the sizes {}.{counted}",
         words(&placing.cell),
         words(&block.sizes)
     );

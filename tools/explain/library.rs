@@ -52,6 +52,7 @@ impl Net {
 
 pub struct Block {
     pub sizes: [usize; 3],
+    pub origin: [i16; 3],
     corrections: Vec<i16>,
     uncertainties: Vec<u16>,
 }
@@ -111,8 +112,9 @@ pub fn load(unit: Unit, file: &[u8]) -> (Unit, Result<Block, Refusal>) {
     if answer.number != 0 {
         return (answer.unit, Err(Refusal { number: answer.number, place: answer.place }));
     }
-    let Unit { n1, n2, n3, .. } = answer.unit;
-    (answer.unit, Ok(Block { sizes: [n1, n2, n3].map(usize::from), corrections, uncertainties }))
+    let Unit { n1, n2, n3, o1, o2, o3, .. } = answer.unit;
+    let sizes = [n1, n2, n3].map(usize::from);
+    (answer.unit, Ok(Block { sizes, origin: [o1, o2, o3], corrections, uncertainties }))
 }
 
 /// N, U and the denominator.
@@ -139,7 +141,7 @@ pub fn answer(
     unit: Unit,
     net: &Net,
     block: &Block,
-    point: [u32; 3],
+    point: [i32; 3],
     divisor: u32,
 ) -> Result<Figure, Refusal> {
     let Block { corrections, uncertainties, .. } = block;
@@ -160,7 +162,7 @@ pub fn live_answer(
     unit: Unit,
     net: &Net,
     block: &Block,
-    point: [u32; 3],
+    point: [i32; 3],
     divisor: u32,
     with_uncertainty: bool,
 ) -> live::Answer {

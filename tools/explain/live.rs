@@ -4,7 +4,7 @@
 use crate::divisors;
 use crate::library::{Figure, Net, Refusal};
 use crate::parts::Part;
-use crate::placing::Placing;
+use crate::point::Point;
 use crate::sums::denominator;
 use crate::torskavel::{MAX_LIVE_DENOMINATOR, refused};
 use crate::walk::{Outcome, Walk};
@@ -78,8 +78,8 @@ fn differing(live: &Live) -> Vec<String> {
     lines
 }
 
-fn meets_15(net: &Net, placing: &Placing, outcome: &Outcome) -> Vec<String> {
-    let (m, divisor) = (net.degree(), placing.divisor);
+fn meets_15(net: &Net, point: &Point, outcome: &Outcome) -> Vec<String> {
+    let (m, divisor) = (net.degree(), point.divisor);
     let later = match outcome {
         Outcome::Refused(refusal) => format!(", looked at before {}", refusal.number),
         _ => String::new(),
@@ -95,14 +95,14 @@ fn meets_15(net: &Net, placing: &Placing, outcome: &Outcome) -> Vec<String> {
 /// What a live call answers here; of one that is refused as the exact call is, nothing.
 pub fn told(walk: &Walk, parts: &mut Vec<Part>) {
     let Some(live) = &walk.live else { return };
-    let lines = match (&live.right[0], &walk.net, &walk.placing) {
+    let lines = match (&live.right[0], &walk.net, &walk.point) {
         _ if !live.agrees() => differing(live),
         (Ok(_), ..) => vec![
             format!("{}: the same numbers as floats, over the same denominator", shown(&live.given[0])),
             format!("with the uncertainty switched off: {}", shown(&live.given[1])),
         ],
-        (Err(refusal), Ok(net), Some(placing)) if refusal.number == refused::LIVE_DENOMINATOR => {
-            meets_15(net, placing, &walk.outcome)
+        (Err(refusal), Ok(net), Some(point)) if refusal.number == refused::LIVE_DENOMINATOR => {
+            meets_15(net, point, &walk.outcome)
         }
         _ => return,
     };

@@ -2,10 +2,11 @@
 //! table.
 
 use crate::library::{Block, Net};
+use crate::point::Point;
 
 pub struct Placing {
-    pub coordinates: [u32; 3],
-    pub divisor: u32,
+    pub point: Point,
+    /// Counted from the table's first entry.
     pub cell: [usize; 3],
     pub remainders: [u32; 3],
     /// The axes p, r, s, counted from 0.
@@ -13,30 +14,31 @@ pub struct Placing {
     pub weights: [u32; 4],
 }
 
-/// Cell and remainder on an axis of so many entries. The far face belongs to the last cell, with the divisor
-/// as its remainder.
-fn divided(coordinate: u32, divisor: u32, size: usize) -> (usize, u32) {
-    match ((coordinate / divisor) as usize, coordinate % divisor) {
+/// Cell and remainder of a coordinate that is read from the origin, on an axis of so many entries. The far
+/// face belongs to the last cell, with the divisor as its remainder.
+fn divided(read: u64, divisor: u32, size: usize) -> (usize, u32) {
+    let by = u64::from(divisor);
+    match ((read / by) as usize, (read % by) as u32) {
         (cell, 0) if cell == size => (cell - 1, divisor),
         within => within,
     }
 }
 
 impl Placing {
-    /// None where the divisor is 0.
-    pub fn of(coordinates: [u32; 3], divisor: u32, sizes: [usize; 3]) -> Option<Placing> {
-        if divisor == 0 {
+    /// None where the point is before the origin.
+    pub fn of(point: Point, sizes: [usize; 3]) -> Option<Placing> {
+        if point.is_before_on_some_axis() {
             return None;
         }
-        let divided = [0, 1, 2].map(|b| divided(coordinates[b], divisor, sizes[b]));
+        let divisor = point.divisor;
+        let divided = [0, 1, 2].map(|b| divided(point.read(b) as u64, divisor, sizes[b]));
         let remainders = divided.map(|(_, remainder)| remainder);
         let mut axes = [0, 1, 2];
         // A sort that is stable leaves ties by the lower axis.
         axes.sort_by_key(|&b| std::cmp::Reverse(remainders[b]));
         let [up, ur, us] = axes.map(|b| remainders[b]);
         Some(Placing {
-            coordinates,
-            divisor,
+            point,
             cell: divided.map(|(cell, _)| cell),
             remainders,
             axes,
@@ -46,7 +48,7 @@ impl Placing {
 
     /// Whether the point is on the far face of an axis.
     pub fn on_far_face(&self, axis: usize) -> bool {
-        self.remainders[axis] == self.divisor
+        self.remainders[axis] == self.point.divisor
     }
 
     /// The local place of b0, b1, b2, b3.
@@ -66,9 +68,10 @@ impl Placing {
         inside.then(|| Window { low: [0, 1, 2].map(|b| self.cell[b] + 1 - extents[b]), high: self.cell })
     }
 
-    /// Twice the coordinate less the extent's part, over 2D: where on an axis the point reads the table.
+    /// Twice the coordinate that is read from the origin, less the extent's part, over 2D: where on an axis
+    /// the point reads the table.
     pub fn reading(&self, net: &Net, axis: usize) -> i128 {
-        2 * i128::from(self.coordinates[axis]) - net.extents()[axis] as i128 * i128::from(self.divisor)
+        2 * i128::from(self.point.read(axis)) - net.extents()[axis] as i128 * i128::from(self.point.divisor)
     }
 }
 
@@ -94,7 +97,7 @@ impl Window {
 /// The table read on straight lines between the eight entries around a point that is inside, correction and
 /// uncertainty, each over (2D)³. None where one of them counts and was never measured.
 pub fn plain_reading(placing: &Placing, net: &Net, block: &Block) -> Option<[i128; 2]> {
-    let whole = 2 * i128::from(placing.divisor);
+    let whole = 2 * i128::from(placing.point.divisor);
     let mut sums = [0, 0];
     for corner in 0..8 {
         let (mut entry, mut weight) = ([0; 3], 1);

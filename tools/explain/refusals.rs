@@ -5,7 +5,7 @@ use crate::parts::{Part, bracketed, words};
 use crate::request::Question;
 use crate::torskavel::{self, refused};
 use crate::walk::{Outcome, Walk};
-use crate::{divisors, outside, uncertain_gaps, valuing};
+use crate::{divisors, old_layout, outside, uncertain_gaps, valuing};
 
 const FITTER: &str = "the fitter";
 const SURVEYOR: &str = "the surveyor";
@@ -101,22 +101,32 @@ fn of_net(walk: &Walk, number: u32, place: usize) -> Words {
     }
 }
 
+/// 5 and 7, which old files meet too.
+fn of_length(walk: &Walk, number: u32) -> Words {
+    let (wrong, to_do) = match number {
+        refused::FILE_HEADER => {
+            let wrong = "the file has under 12 bytes, too few for its sizes and its origin";
+            (wrong.to_string(), "it is cut off, or not a field file: copy it again")
+        }
+        _ => {
+            let wants = walk.head.map_or(String::new(), |sizes| {
+                format!(": {} want {} bytes", words(&sizes), torskavel::file_length(sizes.map(|n| n as u16)))
+            });
+            let to_do = "it is cut off, or something is appended to it: copy it again";
+            (format!("the file's length does not fit its sizes{wants}"), to_do)
+        }
+    };
+    words_of(wrong, FITTER, old_layout::to_do(walk, number).unwrap_or(to_do.to_string()))
+}
+
 fn of_file(walk: &Walk, number: u32, place: usize) -> Words {
-    let again = "it is cut off, or not a field file: copy it again";
     match number {
-        refused::FILE_HEADER => words_of("the file has under 6 bytes, too few for its sizes", FITTER, again),
+        refused::FILE_HEADER | refused::FILE_LENGTH => of_length(walk, number),
         refused::SIZES => words_of(
             "a size is 0 or above 64, or there are more than 4096 entries",
             FITTER,
             "it is another kind of file, or its first 6 bytes are damaged: copy it again",
         ),
-        refused::FILE_LENGTH => {
-            let wants = walk.head.map_or(String::new(), |sizes| {
-                format!(": {} want {} bytes", words(&sizes), torskavel::file_length(sizes.map(|n| n as u16)))
-            });
-            let to_do = "it is cut off, or something is appended to it: copy it again";
-            words_of(format!("the file's length does not fit its sizes{wants}"), FITTER, to_do)
-        }
         refused::UNCERTAINTY => words_of(
             format!("{} has an uncertainty above 32767", entry(walk, place)),
             SURVEYOR,
@@ -144,11 +154,7 @@ fn of_divisor(walk: &Walk, number: u32) -> Words {
 
 fn of_point(walk: &Walk, number: u32, place: usize) -> Words {
     match number {
-        refused::OUTSIDE => {
-            let further = "probe further in; the far face itself is inside";
-            let to_do = if outside::nowhere_inside(walk) { outside::LARGER } else { further };
-            words_of("the point is not inside the table", FITTER, to_do)
-        }
+        refused::OUTSIDE => words_of("the point is not inside the table", FITTER, outside::to_do(walk)),
         refused::UNMEASURED => {
             let elsewhere = match &walk.block {
                 Ok(block) if place < block.entries() && !block.is_gap(place_of(place, block.sizes)) => {
@@ -165,7 +171,7 @@ fn of_point(walk: &Walk, number: u32, place: usize) -> Words {
             words_of(wrong, SURVEYOR, to_do)
         }
         refused::PLACING if outside::nowhere_inside(walk) => {
-            words_of(valuing::WRONG, FITTER, outside::LARGER)
+            words_of(valuing::WRONG, FITTER, outside::to_do(walk))
         }
         refused::PLACING => words_of(valuing::WRONG, FIRMWARE, valuing::to_do(walk)),
         _ => of_divisor(walk, number),
@@ -185,7 +191,10 @@ fn tell(walk: &Walk, Refusal { number, place }: Refusal, all: bool, parts: &mut 
     let mut line = |text: String| parts.push(Part::Line(text));
     line(format!("{number}: {wrong}"));
     match number {
-        refused::OUTSIDE => outside::told(walk, walk.placing.as_ref()).into_iter().for_each(&mut line),
+        refused::FILE_HEADER | refused::FILE_LENGTH => {
+            old_layout::beside(walk, number).into_iter().for_each(&mut line)
+        }
+        refused::OUTSIDE => outside::told(walk).into_iter().for_each(&mut line),
         refused::LIVE_DENOMINATOR => line(divisors::LOOKED_AT.to_string()),
         refused::UNCERTAIN_GAP => uncertain_gaps::beside(walk, place, all).into_iter().for_each(&mut line),
         refused::PLACING => valuing::beside(walk).into_iter().for_each(&mut line),

@@ -1,18 +1,15 @@
 //! The walk as parts to be written.
 
-use crate::decimal::{decimal, rounded};
+use crate::decimal::{DECIMALS, rounded};
 use crate::handed::Handed;
 use crate::library::{Block, Figure, Net};
 use crate::parts::{Part, bracketed, listed, words};
-use crate::placing::{Placing, Window, plain_reading};
+use crate::placing::Placing;
 use crate::request::Question;
 use crate::source::Source;
 use crate::sums::{Counted, LocalPlace, Sums, factorial};
 use crate::walk::{Outcome, Walk};
-use crate::{cell_picture, layers_picture, live, refusals, tables, valuing};
-
-/// The decimals of a position and of a figure in tenths of a micrometre.
-const DECIMALS: u32 = 3;
+use crate::{cell_picture, layers_picture, live, placed, refusals, tables, valuing};
 
 fn heading(parts: &mut Vec<Part>, text: &str) {
     parts.push(Part::Heading(text.to_string()));
@@ -73,6 +70,9 @@ fn file(walk: &Walk, all: bool, parts: &mut Vec<Part>) {
                 parts,
                 format!("sizes {}: {entries} entries, {gaps_in_all} never measured", words(&block.sizes)),
             );
+            if block.origin != [0; 3] {
+                line(parts, format!("origin {}: coordinates are read from there", words(&block.origin)));
+            }
             line(parts, "corrections and uncertainties in tenths of a micrometre".to_string());
             if gaps_in_all > 0 {
                 line(parts, gaps(block, all));
@@ -113,58 +113,8 @@ fn shape(net: &Net, parts: &mut Vec<Part>) {
     line(parts, format!("the shares at a local place add up to {m}! = {}", factorial(m)));
 }
 
-/// Three fractions with one denominator.
-fn decimals(numerators: [i128; 3], denominator: i128) -> String {
-    words(&numerators.map(|numerator| decimal(numerator, denominator, DECIMALS)))
-}
-
-/// From the position to the weights, with the far faces that the point is on.
-fn placed(block: &Block, placing: &Placing, faces: &[usize], parts: &mut Vec<Part>) {
-    let divisor = placing.divisor;
-    let position = decimals(placing.coordinates.map(i128::from), divisor.into());
-    line(parts, format!("{} over {divisor}: position {position}", words(&placing.coordinates)));
-    line(parts, format!("cell {}, remainders {}", words(&placing.cell), words(&placing.remainders)));
-    for &b in faces {
-        let face = format!("{} = {} x {divisor} is the far face", placing.coordinates[b], block.sizes[b]);
-        let belongs = format!("belongs to the last cell, {}, with the remainder {divisor}", placing.cell[b]);
-        line(parts, format!("axis {}: {face}, which {belongs}", b + 1));
-    }
-    let axes = words(&placing.axes.map(|b| b + 1));
-    line(parts, format!("axis order {axes}, weights {}, together {divisor}", words(&placing.weights)));
-    if !faces.is_empty() {
-        let idle = "the corner (0, 0, 0) does not count";
-        line(parts, format!("the first weight is 0, as on every far face: {idle}"));
-    }
-}
-
-fn point(net: &Net, block: &Block, placing: &Placing, window: Option<Window>, parts: &mut Vec<Part>) {
-    let faces: Vec<usize> = (0..3).filter(|&b| placing.on_far_face(b)).collect();
-    placed(block, placing, &faces, parts);
-    let Some(window) = window else { return };
-    let (low, high) = (words(&window.low), words(&window.high));
-    line(parts, format!("window from {low} to {high}: {} entries", window.count()));
-    if !faces.is_empty() {
-        let next: Vec<_> = faces.iter().map(|&b| format!("{} on axis {}", block.sizes[b], b + 1)).collect();
-        let further = format!("the next, {}, would count only further out", next.join(", "));
-        line(parts, format!("no entry past the table is missing: {further}"));
-    }
-    let divisor = i128::from(placing.divisor);
-    let half = decimals(net.extents().map(|extent| extent as i128), 2);
-    let reading = decimals([0, 1, 2].map(|b| placing.reading(net, b)), 2 * divisor);
-    line(parts, format!("less half the extents, {half}, it reads the table at {reading}"));
-    if let Some([correction, uncertainty]) = plain_reading(placing, net, block) {
-        let whole = (2 * divisor).pow(3);
-        let [c, u] = [correction, uncertainty].map(|number| decimal(number, whole, DECIMALS));
-        let note = "(only a check of plausibility)";
-        line(
-            parts,
-            format!("plain reading there, straight between the entries: {c}, uncertainty {u} {note}"),
-        );
-    }
-}
-
-fn window(walk: &Walk, net: &Net, block: &Block, placing: &Placing, all: bool, parts: &mut Vec<Part>) {
-    let (Some(window), Some(sums)) = (walk.window, &walk.sums) else { return };
+fn window(walk: &Walk, net: &Net, block: &Block, all: bool, parts: &mut Vec<Part>) {
+    let (Some(placing), Some(window), Some(sums)) = (&walk.placing, walk.window, &walk.sums) else { return };
     let (svg, caption) = cell_picture::drawn(placing);
     parts.push(Part::Picture { svg, caption });
     heading(parts, "The window");
@@ -205,7 +155,7 @@ fn in_units(name: &str, number: i128, denominator: i128) -> String {
 
 fn answer(figure: Figure, net: &Net, placing: &Placing, parts: &mut Vec<Part>) {
     let Figure { numerator, uncertainty, denominator } = figure;
-    let (m, divisor) = (net.degree(), placing.divisor);
+    let (m, divisor) = (net.degree(), placing.point.divisor);
     heading(parts, "The answer");
     line(parts, format!("N {numerator}, U {uncertainty}, denominator {m}! x {divisor}^{m} = {denominator}"));
     line(parts, in_units("shift", numerator, denominator));
@@ -236,11 +186,8 @@ pub fn parts(walk: &Walk, all: bool) -> Vec<Part> {
     }
     if let (Ok(net), Ok(block)) = (&walk.net, &walk.block) {
         valuing::told(walk, &mut parts);
-        if let Some(placing) = &walk.placing {
-            heading(&mut parts, "The point");
-            point(net, block, placing, walk.window, &mut parts);
-            window(walk, net, block, placing, all, &mut parts);
-        }
+        placed::told(walk, net, block, &mut parts);
+        window(walk, net, block, all, &mut parts);
         outcome(walk, net, walk.placing.as_ref(), all, &mut parts);
     }
     refusals::told(walk, all, &mut parts);

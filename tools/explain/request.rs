@@ -17,12 +17,12 @@ usage: explain FILE ORDER X Y Z D [--all] [--page OUT.html]
 Tells how the unit comes to its figure at the point X/D, Y/D, Z/D, with the table of a field file and a net.
 ORDER is the word factory for a unit of the factory shape, 2 2 2 1, which nearly every unit has: its net is
 copied ready-made. For any other it is the order of repeats that builds the net, written as digits: 1324, or
-'' for the order without a repeat; 132 builds the numbers that factory copies. X, Y, Z and D are whole numbers
-from 0 to 4294967295.
+'' for the order without a repeat; 132 builds the numbers that factory copies. X, Y and Z are whole numbers
+from -2147483648 to 2147483647, and D is one from 0 to 4294967295.
 
 With the word placing it tells the same for a placing that was valued, or why it was refused by 17: the cell
 K1 K2 K3, the axis order P R S and the weights L0 L1 L2 L3, as they were handed to the unit. P, R and S are
-whole numbers from 0 to 255, the others as above.
+whole numbers from 0 to 255, the others are as D.
 
   --all             also lists the local places whose weights multiply to 0, the entries of the window without
                     a share, and every entry never measured or refused by 16
@@ -38,7 +38,7 @@ call, or 132 does not build the factory's net.
 
 #[derive(Clone, Copy)]
 pub enum Question {
-    Point { coordinates: [u32; 3], divisor: u32 },
+    Point { coordinates: [i32; 3], divisor: u32 },
     Placing(Handed),
     Refusal { number: u32, place: usize },
 }
@@ -89,14 +89,20 @@ fn words(mut arguments: impl Iterator<Item = OsString>) -> Result<Words, String>
     Ok(words)
 }
 
-fn number<T: FromStr + Display>(name: &str, word: &OsStr, largest: T) -> Result<T, String> {
-    let number = word.to_str().and_then(|word| word.parse().ok());
-    number.ok_or_else(|| format!("{name} is '{}', which is no whole number from 0 to {largest}", shown(word)))
+/// The minus sign that pages print, which is taken as one too.
+const MINUS: char = '\u{2212}';
+
+/// A number of a type that has these limits.
+fn number<T: FromStr + Display>(name: &str, word: &OsStr, [least, most]: [T; 2]) -> Result<T, String> {
+    let number = word.to_str().and_then(|word| word.replace(MINUS, "-").parse().ok());
+    number.ok_or_else(|| {
+        format!("{name} is '{}', which is no whole number from {least} to {most}", shown(word))
+    })
 }
 
-fn coordinate(name: &str, word: &OsStr) -> Result<u32, String> {
+fn of_point<T: FromStr + Display>(name: &str, word: &OsStr, limits: [T; 2]) -> Result<T, String> {
     let hint = "a position such as 3.4 is written as 34 with the divisor 10";
-    number(name, word, u32::MAX).map_err(|message| format!("{message}; {hint}"))
+    number(name, word, limits).map_err(|message| format!("{message}; {hint}"))
 }
 
 fn point(words: &[OsString]) -> Result<Question, String> {
@@ -106,8 +112,9 @@ fn point(words: &[OsString]) -> Result<Question, String> {
             words.len() + 2
         ));
     };
+    let coordinate = |name, word| of_point(name, word, [i32::MIN, i32::MAX]);
     let coordinates = [coordinate("X", x)?, coordinate("Y", y)?, coordinate("Z", z)?];
-    Ok(Question::Point { coordinates, divisor: coordinate("D", divisor)? })
+    Ok(Question::Point { coordinates, divisor: of_point("D", divisor, [0, u32::MAX])? })
 }
 
 fn placing(words: &[OsString]) -> Result<Question, String> {
@@ -118,8 +125,8 @@ fn placing(words: &[OsString]) -> Result<Question, String> {
             words.len()
         ));
     };
-    let of_32_bits = |name, word| number(name, word, u32::MAX);
-    let byte = |name, word| number(name, word, u8::MAX);
+    let of_32_bits = |name, word| number(name, word, [0, u32::MAX]);
+    let byte = |name, word| number(name, word, [0, u8::MAX]);
     Ok(Question::Placing(Handed {
         cell: [of_32_bits("K1", k1)?, of_32_bits("K2", k2)?, of_32_bits("K3", k3)?],
         axes: [byte("P", p)?, byte("R", r)?, byte("S", s)?],

@@ -138,7 +138,7 @@ impl Sums {
         let figure = Figure {
             numerator: places.iter().map(LocalPlace::to_numerator).sum(),
             uncertainty: places.iter().map(LocalPlace::to_uncertainty).sum(),
-            denominator: denominator(net.degree(), placing.divisor),
+            denominator: denominator(net.degree(), placing.point.divisor),
         };
         let counted = entries.iter().map(|&entry| counted(entry, &places)).collect();
         Sums { places, counted, figure }

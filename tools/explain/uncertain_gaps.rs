@@ -3,7 +3,7 @@
 use crate::library::place_of;
 use crate::parts::{bracketed, listed};
 use crate::torskavel::{NEVER_MEASURED, refused};
-use crate::walk::Walk;
+use crate::walk::{HEAD, Walk};
 
 pub const TO_DO: &str = "send the file back: if the entry was never measured, set its uncertainty to 0; if \
                          it was, put its correction in";
@@ -19,10 +19,10 @@ fn numbers(bytes: &[u8]) -> impl Iterator<Item = u16> {
 /// Such entries by their index, with their uncertainties; none where the file's length does not fit.
 pub fn found(file: &[u8], sizes: Option<[usize; 3]>) -> Vec<(usize, u16)> {
     let entries: usize = sizes.map_or(0, |sizes| sizes.iter().product());
-    if file.len() != 6 + 4 * entries {
+    if file.len() != HEAD + 4 * entries {
         return Vec::new();
     }
-    let (corrections, uncertainties) = file[6..].split_at(2 * entries);
+    let (corrections, uncertainties) = file[HEAD..].split_at(2 * entries);
     let pairs = numbers(corrections).zip(numbers(uncertainties)).enumerate();
     let uncertain = pairs.filter(|&(_, (c, u))| c.cast_signed() == NEVER_MEASURED && u != 0);
     uncertain.map(|(index, (_, uncertainty))| (index, uncertainty)).collect()

@@ -4,6 +4,7 @@
 use crate::handed::Handed;
 use crate::library::{Figure, Refusal};
 use crate::parts::{Part, words};
+use crate::point::Point;
 use crate::request::Question;
 use crate::torskavel::refused;
 use crate::walk::Walk;
@@ -99,11 +100,11 @@ pub fn told(walk: &Walk, parts: &mut Vec<Part>) {
     let mut line = |text: String| parts.push(Part::Line(text));
     let (cell, axes, weights) = (words(&handed.cell), words(&handed.axes), words(&handed.weights));
     line(format!("cell {cell}, axis order {axes}, weights {weights}, together {}", handed.divisor()));
-    if let Some(placing) = &walk.placing {
-        let (point, divisor) = (words(&placing.coordinates), placing.divisor);
+    if let Some(Point { coordinates, divisor, origin }) = walk.point {
         line(format!("remainders: {}", remainders(&handed)));
-        let each = format!("on each axis the cell times {divisor}, and the remainder");
-        line(format!("it stands for the point {point} over {divisor}: {each}"));
+        let cell = if origin == [0; 3] { "the cell" } else { "the origin and the cell together" };
+        let each = format!("on each axis {cell} times {divisor}, and the remainder");
+        line(format!("it stands for the point {} over {divisor}: {each}", words(&coordinates)));
     }
     if !valued.agrees() {
         line("THE VALUING CALL DOES NOT AGREE WITH THE POINT CALL:".to_string());

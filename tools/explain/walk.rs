@@ -4,6 +4,7 @@ use crate::library::{self, Block, Figure, Net, Refusal};
 use crate::live::Live;
 use crate::parts::shown;
 use crate::placing::{Placing, Window};
+use crate::point::Point;
 use crate::request::{Question, Request};
 use crate::source::Source;
 use crate::sums::Sums;
@@ -27,6 +28,8 @@ pub struct Walk<'a> {
     pub block: Result<Block, Refusal>,
     pub question: Question,
     /// Where there is a divisor, a net and a table; of a placing that was handed in, where it is possible.
+    pub point: Option<Point>,
+    /// Of a point that is not before the origin.
     pub placing: Option<Placing>,
     pub window: Option<Window>,
     pub sums: Option<Sums>,
@@ -46,6 +49,9 @@ pub enum Outcome {
     Differs(Figure),
 }
 
+/// The bytes of a file before its corrections: sizes and origin.
+pub const HEAD: usize = 12;
+
 fn head(bytes: &[u8]) -> Option<[usize; 3]> {
     let bytes = bytes.get(..6)?;
     Some([0, 2, 4].map(|at| u16::from_le_bytes([bytes[at], bytes[at + 1]]).into()))
@@ -56,7 +62,7 @@ struct Given {
     answer: Result<Figure, Refusal>,
     live: Live,
     /// Coordinates and divisor; none for a placing that stands for no point.
-    point: Option<([u32; 3], u32)>,
+    point: Option<([i32; 3], u32)>,
     valued: Option<Valued>,
 }
 
@@ -100,6 +106,7 @@ impl<'a> Walk<'a> {
             as_built,
             block,
             question: request.question,
+            point: None,
             placing: None,
             window: None,
             sums: None,
@@ -125,7 +132,8 @@ impl<'a> Walk<'a> {
         self.valued = valued;
         self.live = Some(live);
         let refused = answer.as_ref().err().map_or(0, |refusal| refusal.number);
-        self.placing = point.and_then(|(point, divisor)| Placing::of(point, divisor, block.sizes));
+        self.point = point.and_then(|(point, divisor)| Point::new(point, divisor, block.origin));
+        self.placing = self.point.and_then(|point| Placing::of(point, block.sizes));
         // 10 and 11 come before the window is looked at, and keep the powers of the divisor small
         if refused != torskavel::refused::DIVISOR && refused != torskavel::refused::DENOMINATOR {
             self.window = self.placing.as_ref().and_then(|placing| placing.window(net, block));

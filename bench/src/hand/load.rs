@@ -4,7 +4,8 @@ use super::shape::allowed_sizes;
 use super::{Refusal, refuse, refuse_at};
 use crate::torskavel::Unit;
 
-const HEADER: usize = 6;
+/// Of sizes and origin.
+const HEADER: usize = 12;
 const LARGEST_UNCERTAINTY: u16 = 32767;
 /// As it is read, without a sign.
 const NEVER_MEASURED: u16 = -32768i16 as u16;
@@ -42,7 +43,9 @@ fn load_by(
     uncertainties: &mut [u16],
 ) -> Result<Unit, Refusal> {
     let Some((header, numbers)) = file.split_at_checked(HEADER) else { return refuse(5) };
-    let [n1, n2, n3] = [0, 2, 4].map(|at| u16::from_le_bytes([header[at], header[at + 1]]));
+    let word = |at: usize| u16::from_le_bytes([header[at], header[at + 1]]);
+    let [n1, n2, n3] = [0, 2, 4].map(word);
+    let [o1, o2, o3] = [6, 8, 10].map(|at| word(at) as i16);
     let Some(sizes) = allowed_sizes([n1, n2, n3]) else { return refuse(6) };
     let n: usize = sizes.iter().product();
     if numbers.len() != 4 * n {
@@ -59,7 +62,7 @@ fn load_by(
     for (place, word) in uncertainties.iter_mut().zip(words(second)) {
         *place = word;
     }
-    Ok(Unit { has_block: 1, n1, n2, n3, ..unit })
+    Ok(Unit { has_block: 1, n1, n2, n3, o1, o2, o3, ..unit })
 }
 
 /// The little-endian numbers of some bytes.

@@ -54,7 +54,14 @@ pub fn allowed_sizes(n: [u16; 3]) -> Option<[usize; 3]> {
     allowed.then_some(n)
 }
 
-/// n1, n2, n3 of the block that a unit counts as having.
-pub fn block_sizes(unit: &Unit) -> Option<[usize; 3]> {
-    allowed_sizes([unit.n1, unit.n2, unit.n3]).filter(|_| unit.has_block == 1)
+/// Where a block's entries are: n1, n2, n3 and o1, o2, o3.
+pub struct Entries {
+    pub sizes: [usize; 3],
+    pub origin: [i16; 3],
+}
+
+/// Of the block that a unit counts as having.
+pub fn block_entries(unit: &Unit) -> Option<Entries> {
+    let sizes = allowed_sizes([unit.n1, unit.n2, unit.n3]).filter(|_| unit.has_block == 1)?;
+    Some(Entries { sizes, origin: [unit.o1, unit.o2, unit.o3] })
 }

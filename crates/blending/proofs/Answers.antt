@@ -49,7 +49,8 @@ module _ (u : Unit) (netLength correctionsLength uncertaintiesLength : ℕ) wher
   }
 
   -- so can that of a point that no check has refused
-  pub fit : (x y z D : ℕ) → Lent u netLength correctionsLength uncertaintiesLength → PointAccepted u x y z D
+  pub fit : (x y z : ℤ) (D : ℕ) → Lent u netLength correctionsLength uncertaintiesLength
+      → PointAccepted u x y z D
       → Fit u netLength correctionsLength uncertaintiesLength (placing u x y z D)
   unfolding placing
   fit x y z D l p = fit-at (placing u x y z D) l (p .point-inside) (placing-axes u x y z D)
@@ -90,7 +91,7 @@ module _ {A : Type 0} {k : Checked} (f : ℕ → A) (u : Unit) (d : List A) wher
 
 -- ---- the whole call
 
-module _ (u : Unit) (net : List ℕ) (corrections : List ℤ) (uncertainties : List ℕ) (x y z D : ℕ) where
+module _ (u : Unit) (net : List ℕ) (corrections : List ℤ) (uncertainties : List ℕ) (x y z : ℤ) (D : ℕ) where
   abbrev lent-checks : Checked
   lent-checks = lentChecks u (length net) (length corrections) (length uncertainties)
 

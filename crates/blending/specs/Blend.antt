@@ -51,7 +51,7 @@ windowChecks v n net corrections q =
     (refuseIf 23 (not (addsUp v net q)) Passed)
 
 -- Section 10.7: all checks in their order
-unfoldable pub blendChecks : Unit → List ℕ → List ℤ → List ℕ → ℕ → ℕ → ℕ → ℕ → Checked
+unfoldable pub blendChecks : Unit → List ℕ → List ℤ → List ℕ → ℤ → ℤ → ℤ → ℕ → Checked
 blendChecks u net corrections uncertainties x y z D =
     andThen (lentChecks u (length net) (length corrections) (length uncertainties))
     (andThen (pointChecks u x y z D)
@@ -65,7 +65,7 @@ blendPlacedChecks u net corrections uncertainties q =
     (windowChecks (netOf u) (sizes u) (numberAt net) (correctionAt (sizes u) corrections) q)
 
 -- Section 10.7: the answer
-unfoldable pub blendAnswer : Unit → List ℕ → List ℤ → List ℕ → ℕ → ℕ → ℕ → ℕ → PlacingAnswer
+unfoldable pub blendAnswer : Unit → List ℕ → List ℤ → List ℕ → ℤ → ℤ → ℤ → ℕ → PlacingAnswer
 blendAnswer u net corrections uncertainties x y z D =
     passedOr (blendChecks u net corrections uncertainties x y z D) (Placed (placing u x y z D)) Refused
 
@@ -99,12 +99,12 @@ unfoldable pub writtenIf : {A : Type 0} → Checked → (ℕ → A) → Unit →
 writtenIf k f u d = passedOr k (filled f (localPlaces (degree (netOf u))) d) (λ r. d)
 
 -- Section 10.7: the two arrays at exit
-unfoldable pub blendedCorrections : Unit → List ℕ → List ℤ → List ℕ → ℕ → ℕ → ℕ → ℕ → List ℤ → List ℤ
+unfoldable pub blendedCorrections : Unit → List ℕ → List ℤ → List ℕ → ℤ → ℤ → ℤ → ℕ → List ℤ → List ℤ
 blendedCorrections u net corrections uncertainties x y z D =
     writtenIf (blendChecks u net corrections uncertainties x y z D)
     (blendedCorrectionAt u net corrections (placing u x y z D)) u
 
-unfoldable pub blendedUncertainties : Unit → List ℕ → List ℤ → List ℕ → ℕ → ℕ → ℕ → ℕ → List ℕ → List ℕ
+unfoldable pub blendedUncertainties : Unit → List ℕ → List ℤ → List ℕ → ℤ → ℤ → ℤ → ℕ → List ℕ → List ℕ
 blendedUncertainties u net corrections uncertainties x y z D =
     writtenIf (blendChecks u net corrections uncertainties x y z D)
     (blendedUncertaintyAt u net uncertainties (placing u x y z D)) u

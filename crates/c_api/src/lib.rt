@@ -36,6 +36,9 @@ pub extern "C" fn torskavel_empty_unit() -> FlatUnit
         n1: 0,
         n2: 0,
         n3: 0,
+        o1: 0,
+        o2: 0,
+        o3: 0,
     }
 }
 
@@ -118,9 +121,9 @@ pub extern "C" fn torskavel_answer(
     net: &[u32],
     corrections: &[i16],
     uncertainties: &[u16],
-    x: u32,
-    y: u32,
-    z: u32,
+    x: i32,
+    y: i32,
+    z: i32,
     divisor: u32,
 ) -> FlatPointAnswer
     ensures { λ r. ⌜ r ≡ flatPoint (pointAnswer (unitOf unit) (now (net .entry))
@@ -137,9 +140,9 @@ pub extern "C" fn torskavel_live_answer(
     net: &[u32],
     corrections: &[i16],
     uncertainties: &[u16],
-    x: u32,
-    y: u32,
-    z: u32,
+    x: i32,
+    y: i32,
+    z: i32,
     divisor: u32,
     with_uncertainty: u8,
 ) -> FlatLiveAnswer
@@ -165,9 +168,9 @@ pub extern "C" fn torskavel_live_answer(
 #[no_mangle]
 pub extern "C" fn torskavel_place(
     unit: FlatUnit,
-    x: u32,
-    y: u32,
-    z: u32,
+    x: i32,
+    y: i32,
+    z: i32,
     divisor: u32,
 ) -> FlatPlacingAnswer
     ensures { λ r. ⌜ r ≡ flatPlacing (placeAnswer (unitOf unit) x y z divisor) ⌝ }

@@ -1,12 +1,13 @@
 -- Each check of a call refuses, if at all, with a listed number, and the place 0 if that number speaks of
 -- none.
-use mathlib.Core.Bool.{Bool, _||_, false, not, true}
+use mathlib.Core.Bool.{Bool, _&&_, _||_, false, not, true}
 use mathlib.Core.List.{List}
 use mathlib.Core.Path.{_∙_, _≡_, refl, sym}
 use Prim.Native.Nat.{ℕ}
 use lib.Dec.{eqb, ltb}
 use lib.IntN.{ℤ}
 use lib.ListN.{getD, length}
+use lib.Signed.{nonNeg}
 use Rattle.sums.proofs.Search.{false-true}
 use Rattle.sums.specs.Search.{Found, at, first, nowhere}
 use Rattle.spline.specs.Box.{definedNumber, places, width}
@@ -25,8 +26,8 @@ use Rattle.factory.specs.Factory.{factoryChecks, factoryPlaces}
 use Rattle.field.specs.File.{correction, entryCount, fileLength, headerLength, size1, size2, size3}
 use Rattle.field.specs.File.{uncertainty}
 use Rattle.field.specs.Load.{gapCheck, layoutChecks, limitCheck, loadChecks}
-use Rattle.placing.specs.Place.{divisorChecks, insideCheck, lentChecks, limit, liveCheck, liveLimit}
-use Rattle.placing.specs.Place.{pointChecks, roomChecks, scale, unitChecks}
+use Rattle.placing.specs.Place.{cellCheck, divisorChecks, insideCheck, lentChecks, limit, liveCheck}
+use Rattle.placing.specs.Place.{liveLimit, signCheck, pointChecks, roomChecks, scale, unitChecks}
 use Rattle.placing.specs.Placing.{cells, inside, placing, placingCell, sizes, weightSum}
 use Rattle.placing.specs.Possible.{livePlacingChecks, placedChecks, placingChecks, possible}
 use Rattle.placing.specs.declared.Placing.{Placing}
@@ -129,15 +130,25 @@ divisor-numbered v D =
     if-numbered 10 (eqb D 0 || ltb 4096 D) _ refl
     (if-numbered 11 (ltb limit (scale (degree v) D)) Passed refl tt)
 
-inside-numbered : (v : Multiplicities) (n k : Axis → ℕ) → Numbered (insideCheck v n k)
-unfolding insideCheck
-inside-numbered v n k = if-numbered 12 (not (inside v n k)) Passed refl tt
+sign-numbered : (x y z : ℤ) → Numbered (signCheck x y z)
+unfolding signCheck
+sign-numbered x y z = if-numbered 12 (not (nonNeg x && nonNeg y && nonNeg z)) Passed refl tt
 
-pub point-numbered : (u : Unit) (x y z D : ℕ) → Numbered (pointChecks u x y z D)
+cell-numbered : (v : Multiplicities) (n k : Axis → ℕ) → Numbered (cellCheck v n k)
+unfolding cellCheck
+cell-numbered v n k = if-numbered 12 (not (inside v n k)) Passed refl tt
+
+inside-numbered : (u : Unit) (x y z : ℤ) (D : ℕ) → Numbered (insideCheck u x y z D)
+unfolding insideCheck
+inside-numbered u x y z D =
+    then-numbered (signCheck _ _ _) (cellCheck _ _ (cells u x y z D)) (sign-numbered _ _ _)
+    (cell-numbered (netOf u) (sizes u) (cells u x y z D))
+
+pub point-numbered : (u : Unit) (x y z : ℤ) (D : ℕ) → Numbered (pointChecks u x y z D)
 unfolding pointChecks
 point-numbered u x y z D =
     then-numbered (divisorChecks (netOf u) D) _ (divisor-numbered (netOf u) D)
-    (inside-numbered (netOf u) (sizes u) (cells u x y z D))
+    (inside-numbered u x y z D)
 
 pub window-numbered : (v : Multiplicities) (n : Axis → ℕ) (net : ℕ → ℕ) (corrections : ℕ → ℕ → ℕ → ℤ)
     (q : Placing) → Numbered (windowChecks v n net corrections q)
@@ -146,8 +157,8 @@ window-numbered v n net corrections q =
     at-numbered 13 (firstGap v n corrections (placingCell q)) _ refl refl
     (if-numbered 23 (not (addsUp v net q)) Passed refl tt)
 
-pub blend-numbered : (u : Unit) (net : List ℕ) (corrections : List ℤ) (uncertainties : List ℕ) (x y z D : ℕ)
-    → Numbered (blendChecks u net corrections uncertainties x y z D)
+pub blend-numbered : (u : Unit) (net : List ℕ) (corrections : List ℤ) (uncertainties : List ℕ)
+    (x y z : ℤ) (D : ℕ) → Numbered (blendChecks u net corrections uncertainties x y z D)
 unfolding blendChecks
 blend-numbered u net corrections uncertainties x y z D =
     then-numbered (lentChecks u (length net) (length corrections) (length uncertainties)) _
@@ -160,19 +171,19 @@ fifteen-numbered : (v : Multiplicities) (D : ℕ) → Numbered (liveCheck v D)
 unfolding liveCheck
 fifteen-numbered v D = if-numbered 15 (ltb liveLimit (scale (degree v) D)) Passed refl tt
 
-pub live-numbered : (u : Unit) (net : List ℕ) (corrections : List ℤ) (uncertainties : List ℕ) (x y z D : ℕ)
-    → Numbered (liveChecks u net corrections uncertainties x y z D)
+pub live-numbered : (u : Unit) (net : List ℕ) (corrections : List ℤ) (uncertainties : List ℕ)
+    (x y z : ℤ) (D : ℕ) → Numbered (liveChecks u net corrections uncertainties x y z D)
 unfolding liveChecks
 live-numbered u net corrections uncertainties x y z D =
     let v = netOf u in
-    let inner = insideCheck v (sizes u) (cells u x y z D) in
+    let inner = insideCheck u x y z D in
     let window = windowChecks v (sizes u) (numberAt net) (correctionAt (sizes u) corrections)
     (placing u x y z D) in
     then-numbered (lentChecks u (length net) (length corrections) (length uncertainties)) _
     (lent-numbered u (length net) (length corrections) (length uncertainties))
     (then-numbered (divisorChecks v D) _ (divisor-numbered v D)
     (then-numbered (liveCheck v D) (andThen inner window) (fifteen-numbered v D)
-    (then-numbered inner window (inside-numbered v (sizes u) (cells u x y z D))
+    (then-numbered inner window (inside-numbered u x y z D)
     (window-numbered v (sizes u) (numberAt net) (correctionAt (sizes u) corrections) (placing u x y z D)))))
 
 placing-numbered : (u : Unit) (q : Placing) → Numbered (placingChecks u q)

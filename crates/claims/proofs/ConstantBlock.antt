@@ -95,7 +95,7 @@ numerator-constant v net entry q c h =
     ∙ *ℤ-assoc c (pos (factorial m)) (pos (weightSum q ^ m))
 
 -- the fraction c × m! × D^m over m! × D^m, with the uncertainty of the placing
-abbrev constantValue : Multiplicities → Unit → List ℕ → List ℕ → ℤ → ℕ → ℕ → ℕ → ℕ → PointAnswer
+abbrev constantValue : Multiplicities → Unit → List ℕ → List ℕ → ℤ → ℤ → ℤ → ℤ → ℕ → PointAnswer
 constantValue v u net uncertainties c x y z D = Value (record {
   numerator = c *ℤ pos (scale (degree v) D);
   uncertainty =
@@ -105,7 +105,7 @@ constantValue v u net uncertainties c x y z D = Value (record {
 
 -- the claim for a net slice that holds the defined net of the unit's multiplicities
 constant-held : (u : Unit) (net : List ℕ) (corrections : List ℤ) (uncertainties : List ℕ)
-    → (x y z D : ℕ) (c : ℤ)
+    → (x y z : ℤ) (D : ℕ) (c : ℤ)
     → HoldsDefined (netOf u) net → Constant (places (sizes u)) corrections c
     → lentChecks u (length net) (length corrections) (length uncertainties) ≡ Passed
     → pointChecks u x y z D ≡ Passed

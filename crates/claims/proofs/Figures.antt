@@ -13,9 +13,10 @@ use Rattle.unit.specs.Unit.{hasBlock, hasNet, sizeAllowed, sizesAllowed}
 use lib.Ieee.{ofBits, ofInt}
 use Rattle.field.specs.Encoding.{bits, encoding, littleEndian}
 use Rattle.field.specs.File.{correction, signed, uncertainty, word}
-use Rattle.field.specs.Load.{layoutChecks, loadChecks}
-use Rattle.placing.specs.Place.{divisorChecks, insideCheck, lentChecks, liveCheck, pointChecks, unitChecks}
-use Rattle.placing.specs.Placing.{inside, located, placing, rankAxes, withThird}
+use Rattle.field.specs.Load.{layoutChecks, loadAnswer, loadChecks}
+use Rattle.placing.specs.Place.{cellCheck, divisorChecks, insideCheck, lentChecks, liveCheck, signCheck}
+use Rattle.placing.specs.Place.{pointChecks, unitChecks}
+use Rattle.placing.specs.Placing.{fromOrigin, inside, located, placing, rankAxes, withThird}
 use Rattle.placing.specs.Possible.{areAxes, divisorPossible, facesInLast, placedChecks, placingChecks}
 use Rattle.placing.specs.Possible.{possible, remainderOn, tiesInOrder}
 use Rattle.blending.specs.Blend.{windowChecks}
@@ -26,21 +27,28 @@ use Rattle.blending.specs.Gaps.{firstGap, windowGap}
 use Rattle.point.specs.Bernstein.{shiftNumerator, uncertaintyNumerator}
 use Rattle.live.specs.Answer.{liveAnswer, liveChecks}
 use Rattle.claims.specs.Demands.{AllFigures}
-use Rattle.claims.specs.Figures.{AllHold, gapFigures, liveFigures, placingFigures, pointFigures}
+use Rattle.claims.specs.Figures.{AllHold, fileFigures, gapFigures, liveFigures, originFigures}
+use Rattle.claims.specs.Figures.{placingFigures, pointFigures}
 
 pub all-figures : AllFigures
 unfolding sumTo sumZ sumBox sumBoxZ factorial multinomial sumSimplex sumSimplexZ bernstein allTo first
-    tabulate lowerAbove simple sumBack stepped built allowed netList hasNet sizeAllowed sizesAllowed hasBlock
-    located inside withThird rankAxes placing localPlace share shareSum blendedCorrection blendedUncertainty
-    shiftNumerator uncertaintyNumerator allSimplex addsUp windowGap firstGap unitChecks divisorChecks
-    insideCheck pointChecks lentChecks windowChecks valueAnswer pointAnswer liveCheck liveChecks liveAnswer
-    littleEndian bits encoding word signed correction uncertainty layoutChecks loadChecks ofInt ofBits
-    areAxes divisorPossible tiesInOrder remainderOn facesInLast possible placingChecks placedChecks
-    valuingAnswer
+    tabulate lowerAbove simple sumBack stepped built allowed netList hasNet sizeAllowed sizesAllowed
+    hasBlock fromOrigin located inside withThird rankAxes placing localPlace share shareSum
+    blendedCorrection blendedUncertainty shiftNumerator uncertaintyNumerator allSimplex addsUp windowGap
+    firstGap unitChecks divisorChecks signCheck cellCheck insideCheck pointChecks lentChecks windowChecks
+    valueAnswer pointAnswer liveCheck liveChecks liveAnswer littleEndian bits encoding word signed
+    correction uncertainty layoutChecks loadChecks ofInt ofBits areAxes divisorPossible tiesInOrder
+    remainderOn facesInLast possible placingChecks placedChecks valuingAnswer loadAnswer
 all-figures = (refl, ((refl, refl, refl), (refl, (refl, (refl, (refl, (refl, (refl, points))))))))
   where
+    files : AllHold fileFigures
+    files = (refl, (refl, (refl, (refl, (refl, tt)))))
+
+    origins : AllHold originFigures
+    origins = (refl, (refl, (refl, (refl, (refl, (refl, (refl, (refl, (refl, files)))))))))
+
     placings : AllHold placingFigures
-    placings = (refl, (refl, (refl, (refl, (refl, (refl, (refl, (refl, (refl, (refl, tt))))))))))
+    placings = (refl, (refl, (refl, (refl, (refl, (refl, (refl, (refl, (refl, (refl, origins))))))))))
 
     lives : AllHold liveFigures
     lives = (refl, (refl, ((refl, refl), (refl, (refl, (refl, (refl, (refl, placings))))))))

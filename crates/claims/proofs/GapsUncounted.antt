@@ -21,7 +21,7 @@ use Rattle.unit.specs.declared.Refusal.{Refusal}
 use Rattle.unit.specs.declared.Unit.{Unit}
 use Rattle.placing.proofs.Placed.{lent, point-accepted}
 use Rattle.placing.specs.Place.{divisorChecks, insideCheck, lentChecks, liveCheck, pointChecks}
-use Rattle.placing.specs.Placing.{cells, placing, placingCell, sizes}
+use Rattle.placing.specs.Placing.{placing, placingCell, sizes}
 use Rattle.placing.specs.declared.Placing.{Placing}
 use Rattle.blending.proofs.Answers.{fit}
 use Rattle.blending.proofs.Searches.{no-gap}
@@ -62,7 +62,7 @@ module _ (v : Multiplicities) (net : ℕ → ℕ) (entry₁ entry₂ : ℕ → �
       (fun-ext (λ b0. fun-ext (λ b1. fun-ext (λ b2. fun-ext (λ b3.
       ap (λ (n : ℕ). n * termWeight (degree v) q b0 b1 b2 b3) (blended-alike (localPlace q b1 b2 b3)))))))
 
-module _ (u : Unit) (net : List ℕ) (corrections : List ℤ) (us₁ us₂ : List ℕ) (x y z D : ℕ)
+module _ (u : Unit) (net : List ℕ) (corrections : List ℤ) (us₁ us₂ : List ℕ) (x y z : ℤ) (D : ℕ)
     (same : DifferAtGaps (places (sizes u)) corrections us₁ us₂) where
   abbrev q : Placing
   q = placing u x y z D
@@ -95,14 +95,14 @@ module _ (u : Unit) (net : List ℕ) (corrections : List ℤ) (us₁ us₂ : Lis
   -- after the lent slices, whose lengths alone count there, the checks look at no uncertainty
   abbrev after : Checked
   after =
-      andThen (andThen (divisorChecks (netOf u) D) (insideCheck (netOf u) (sizes u) (cells u x y z D)))
+      andThen (andThen (divisorChecks (netOf u) D) (insideCheck u x y z D))
       (windowChecks (netOf u) (sizes u) (numberAt net) (correctionAt (sizes u) corrections) q)
 
   abbrev live-after : Checked
   live-after =
       andThen (divisorChecks (netOf u) D)
       (andThen (liveCheck (netOf u) D)
-      (andThen (insideCheck (netOf u) (sizes u) (cells u x y z D))
+      (andThen (insideCheck u x y z D)
       (windowChecks (netOf u) (sizes u) (numberAt net) (correctionAt (sizes u) corrections) q)))
 
   checks-alike : {A : Type 0} (rest : Checked) (made : A) (kept : Refusal → A)

@@ -27,3 +27,4 @@ pub mod TwoCalls
 pub mod LiveTwoCalls
 pub mod LineFromEdge
 pub mod Halves
+pub mod Origins

@@ -18,7 +18,7 @@ use Rattle.unit.specs.declared.Refusal.{Refusal}
 use Rattle.unit.specs.declared.Unit.{Unit}
 use Rattle.placing.specs.Place.{divisorChecks, insideCheck, lentChecks, liveCheck, liveLimit, pointChecks}
 use Rattle.placing.specs.Place.{scale}
-use Rattle.placing.specs.Placing.{cells, placing, sizes}
+use Rattle.placing.specs.Placing.{placing, sizes}
 use Rattle.blending.specs.Blend.{blendChecks, correctionAt, numberAt, windowChecks}
 use Rattle.point.proofs.Answers as point
 use Rattle.point.specs.Answer.{pointAnswer}
@@ -72,7 +72,7 @@ fifteen-stops v D h = rw (lt-ltb liveLimit (scale (degree v) D) h) refl
 
 -- ---- both chains of checks
 
-module _ (u : Unit) (net : List ℕ) (corrections : List ℤ) (uncertainties : List ℕ) (x y z D : ℕ) where
+module _ (u : Unit) (net : List ℕ) (corrections : List ℤ) (uncertainties : List ℕ) (x y z : ℤ) (D : ℕ) where
   abbrev lent : Checked
   lent = lentChecks u (length net) (length corrections) (length uncertainties)
 
@@ -83,7 +83,7 @@ module _ (u : Unit) (net : List ℕ) (corrections : List ℤ) (uncertainties : L
   fifteen = liveCheck (netOf u) D
 
   abbrev inside : Checked
-  inside = insideCheck (netOf u) (sizes u) (cells u x y z D)
+  inside = insideCheck u x y z D
 
   abbrev window : Checked
   window =

@@ -53,7 +53,7 @@ float-of z = record { bits = refl; zero = λ e. ap (λ (z : ℤ). toBits binary6
 
 -- ---- N and U
 
-module _ (u : Unit) (net : List ℕ) (corrections : List ℤ) (uncertainties : List ℕ) (x y z D : ℕ)
+module _ (u : Unit) (net : List ℕ) (corrections : List ℤ) (uncertainties : List ℕ) (x y z : ℤ) (D : ℕ)
     (passes : Passes u net corrections uncertainties x y z D) (fifteen : liveCheck (netOf u) D ≡ Passed)
     (lent : SixteenBits corrections uncertainties) where
   even : addsUp (netOf u) (numberAt net) (placing u x y z D) ≡ true
@@ -99,7 +99,8 @@ bits-are false f = float-of (f .numerator)
 -- ---- the demands
 
 -- an answer that is no refusal has passed all checks, and what is said of its floats holds
-module _ (u : Unit) (net : List ℕ) (corrections : List ℤ) (uncertainties : List ℕ) (x y z D : ℕ) (flag : Bool)
+module _ (u : Unit) (net : List ℕ) (corrections : List ℤ) (uncertainties : List ℕ) (x y z : ℤ) (D : ℕ)
+    (flag : Bool)
     (P : Float → ℤ → Type 0) (answered : (r : Refusal)
     → liveAnswer u net corrections uncertainties x y z D flag ≡ Refused r → ⊥) where
   abbrev f : Fraction

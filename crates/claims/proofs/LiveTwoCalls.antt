@@ -51,7 +51,7 @@ module _ (u : Unit) (net : List ℕ) (corrections : List ℤ) (uncertainties : L
   abbrev fifteen-first : Placing → ℕ → LiveAnswer
   fifteen-first q D = passedOr (andThen (fifteen D) (andThen room (window q))) (value q) Refused
 
-  module _ {x y z D : ℕ} {q : Placing} (p : Placed u x y z D q) where
+  module _ {x y z : ℤ} {D : ℕ} {q : Placing} (p : Placed u x y z D q) where
     whole-at : liveAnswer u net corrections uncertainties x y z D flag ≡ slices-first (placing u x y z D) D
     unfolding liveAnswer liveChecks lentChecks pointChecks
     whole-at =

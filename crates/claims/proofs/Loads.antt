@@ -1,4 +1,4 @@
--- What a load equals, and where exactly 8 and 16 refuse one.
+-- What a load equals, where exactly 8 and 16 refuse one, and that an old file is refused.
 use mathlib.Core.Bool.{Bool, _||_, false, not, true}
 use mathlib.Core.List.{List}
 use mathlib.Core.Logic.{_↔_}
@@ -18,21 +18,29 @@ use Rattle.unit.specs.Unit.{sizesAllowed}
 use Rattle.unit.specs.declared.Checked.{Checked}
 use Rattle.unit.specs.declared.Checked.the-variants.{Passed, Stopped}
 use Rattle.field.proofs.Accepted.{limits-passed}
+use Rattle.field.proofs.OldLayout.{old-refused}
 use Rattle.field.proofs.RoundTrip.{encoding-bytes, load-encoding}
 use Rattle.field.specs.File.{correction, entryCount, fileLength, headerLength, size1, size2, size3}
 use Rattle.field.specs.File.{uncertainty}
-use Rattle.field.specs.Load.{gapCheck, layoutChecks, limitCheck, loadAnswer, loadChecks}
+use Rattle.field.specs.Load.{gapCheck, layoutChecks, limitCheck, loadAnswer, loadChecks, loadCorrections}
+use Rattle.field.specs.Load.{loadUncertainties}
 use Rattle.claims.proofs.Stopped.{Never, at-never, at-stopped, if-never, passed-never, then-first}
 use Rattle.claims.proofs.Stopped.{then-never, then-second}
 use Rattle.claims.specs.Loads.{GapWithUncertainty, IsLowest, LoadEight, LoadGivesBack, LoadSixteen}
-use Rattle.claims.specs.Loads.{OverLimit}
+use Rattle.claims.specs.Loads.{OldLayout, OverLimit}
 
 pub load-gives-back : LoadGivesBack
-load-gives-back n1 n2 n3 cs us l = (
-  encoding-bytes n1 n2 n3 cs us l,
+load-gives-back n1 n2 n3 o1 o2 o3 cs us l = (
+  encoding-bytes n1 n2 n3 o1 o2 o3 cs us l,
   λ u corrections uncertainties room1 room2.
-      load-encoding n1 n2 n3 cs us l corrections uncertainties room1 room2 u,
+      load-encoding n1 n2 n3 o1 o2 o3 cs us l corrections uncertainties room1 room2 u,
 )
+
+pub old-layout : OldLayout
+unfolding loadAnswer loadCorrections loadUncertainties
+old-layout u file corrections uncertainties allowed old =
+    let e = old-refused file (length corrections) (length uncertainties) allowed old in
+    (simp e, simp e, simp e)
 
 -- ---- the lowest entry of which something holds
 

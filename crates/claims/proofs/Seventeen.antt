@@ -4,12 +4,15 @@ use mathlib.Core.Bool.{Bool, _||_, false, not, true}
 use mathlib.Core.List.{List}
 use mathlib.Core.Logic.{_↔_}
 use mathlib.Core.Path.{_∙_, _≡_, refl, sym}
-use Prim.Native.Nat.{ℕ}
+use Prim.Native.Nat.{_*_, _<_, _^_, _≤_, ℕ}
+use native.Mathlib.Nat.{mul-le-mul}
 use native.Mathlib.Omega.{arith}
 use lib.Dec.{ltb}
-use lib.IntN.{ℤ}
+use lib.IntN.{_*ℤ_, _+ℤ_, natAbs, pos, ℤ}
 use lib.ListN.{length}
+use lib.Signed.{mag, natAbs-le}
 use Rattle.sums.proofs.Search.{false-true}
+use Rattle.sums.proofs.Signed.{abs-add, abs-mul, mag-le}
 use Rattle.spline.specs.Box.{places, width}
 use Rattle.spline.specs.Multiplicities.{degree}
 use Rattle.spline.specs.Place.{a1, a2, a3}
@@ -20,7 +23,7 @@ use Rattle.unit.specs.declared.Checked.{Checked}
 use Rattle.unit.specs.declared.Checked.the-variants.{Passed, Stopped}
 use Rattle.unit.specs.declared.Unit.{Unit}
 use Rattle.placing.proofs.FieldTests.{is-possible, possible-is}
-use Rattle.placing.proofs.GivenBack.{coordinate, coordinates-small, given-back}
+use Rattle.placing.proofs.GivenBack.{coordinate, distanceOn, distances-small, given-back}
 use Rattle.placing.proofs.PlacedPossible.{placed-possible}
 use Rattle.placing.proofs.Placed.{place-placed, point-accepted}
 use Rattle.placing.specs.Place.{liveCheck, liveLimit, roomChecks, scale, unitChecks}
@@ -150,6 +153,15 @@ module _ (u : Unit) (net : List ℕ) (corrections : List ℤ) (uncertainties : L
     λ h. rw h refl,
   )
 
+-- a coordinate not far from an origin of 16 bits fits 32
+coordinate-fits : (t : ℕ) (o : ℤ) (D : ℕ) → t ≤ 262144 → D ≤ 4096 → mag o < 2 ^ 15
+    → mag (pos t +ℤ o *ℤ pos D) < 2 ^ 31
+coordinate-fits t o D near few fits =
+    let size = abs-add (pos t) (o *ℤ pos D) in
+    let product = abs-mul o (pos D) in
+    let most : natAbs o * D ≤ 32768 * 4096 = mul-le-mul (natAbs-le o fits) few in
+    omega (arith, mag-le (pos t +ℤ o *ℤ pos D))
+
 -- ---- the demands
 
 pub seventeen : Seventeen
@@ -160,24 +172,26 @@ seventeen u net corrections uncertainties q flag =
     ((λ h. n .0 (v .0 h), λ h. v .1 (n .1 h)), (λ h. n .0 (l .0 h), λ h. l .1 (n .1 h)))
 
 pub given : Given
-given u net corrections uncertainties q e other = go (possible u q) refl
+given u net corrections uncertainties q e origin other = go (possible u q) refl
   where
     go : (b : Bool) → possible u q ≡ b → GivenAt u q
     go true h =
         let p = is-possible u q h in
-        let small = coordinates-small u q e p in
+        let small = distances-small u q e p in
+        let few = p .divisor .few in
+        let x = coordinate-fits (distanceOn q a1) (u .o1) (weightSum q) (small .0) few
+        (omega (arith, origin .first)) in
+        let y = coordinate-fits (distanceOn q a2) (u .o2) (weightSum q) (small .1) few
+        (omega (arith, origin .second)) in
+        let z = coordinate-fits (distanceOn q a3) (u .o3) (weightSum q) (small .2) few
+        (omega (arith, origin .third)) in
         record {
-          x = coordinate q a1;
-          y = coordinate q a2;
-          z = coordinate q a3;
+          x = coordinate q a1 (u .o1);
+          y = coordinate q a2 (u .o2);
+          z = coordinate q a3 (u .o3);
           D = weightSum q;
           given = given-back u q e p;
-          fits = (
-            omega (arith, small .0),
-            omega (arith, small .1),
-            omega (arith, small .2),
-            omega (arith, p .divisor .few),
-          );
+          fits = (omega (arith, x), omega (arith, y), omega (arith, z), omega (arith, few));
         }
     go false h =
         absurd (other (valuing-stopped u net corrections uncertainties q .1 (impossible-stopped u q e h)))

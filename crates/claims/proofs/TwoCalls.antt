@@ -35,7 +35,7 @@ use Rattle.claims.specs.Placings.{PlacedConstantBlock, TwoCalls, TwoRefu
 
 -- ---- a point that is placed
 
-module _ (u : Unit) (x y z D : ℕ) where
+module _ (u : Unit) (x y z : ℤ) (D : ℕ) where
   pub record Placed (q : Placing) : Type 0 where
     pub unit-passed : unitChecks u ≡ Passed
     pub point-passed : pointChecks u x y z D ≡ Passed
@@ -86,7 +86,7 @@ module _ (u : Unit) (net : List ℕ) (corrections : List ℤ) (uncertainties : L
   valuing-is q h = rw h refl
 
   -- so they do where unit and point have
-  point-is : (x y z D : ℕ) → unitChecks u ≡ Passed → pointChecks u x y z D ≡ Passed
+  point-is : (x y z : ℤ) (D : ℕ) → unitChecks u ≡ Passed → pointChecks u x y z D ≡ Passed
       → pointAnswer u net corrections uncertainties x y z D
       ≡ passedOr room (value (placing u x y z D) D) Refused
   unfolding pointAnswer lentChecks
@@ -99,7 +99,7 @@ module _ (u : Unit) (net : List ℕ) (corrections : List ℤ) (uncertainties : L
       last (Stopped r) = refl
 
   -- what refuses a slice or the point refuses the point call
-  lent-stops : (x y z D : ℕ) {r : Refusal} → andThen lent (pointChecks u x y z D) ≡ Stopped r
+  lent-stops : (x y z : ℤ) (D : ℕ) {r : Refusal} → andThen lent (pointChecks u x y z D) ≡ Stopped r
       → pointAnswer u net corrections uncertainties x y z D ≡ Refused r
   unfolding pointAnswer
   lent-stops x y z D h = rw h refl

@@ -71,7 +71,7 @@ FlatNumbers =
     × ((file : List ℕ) (corrections : List ℤ) (uncertainties : List ℕ)
     → (let answer = loadAnswer (unitOf u) file corrections uncertainties in
     (flatBlock u answer .number ≡ 0) ↔ ((after : Unit) × (answer ≡ Changed after))))
-    × ((net : List ℕ) (corrections : List ℤ) (uncertainties : List ℕ) (x y z D : ℕ)
+    × ((net : List ℕ) (corrections : List ℤ) (uncertainties : List ℕ) (x y z : ℤ) (D : ℕ)
     → (let answer = pointAnswer (unitOf u) net corrections uncertainties x y z D in
     (flatPoint answer .number ≡ 0) ↔ ((value : fraction.Fraction) × (answer ≡ Value value))))
 
@@ -125,7 +125,7 @@ Held =
 -- Section 11, of the numbers in the lent slices, whatever these are.
 abbrev pub Fraction : Type 0
 Fraction =
-    (u : Unit) (net : List ℕ) (corrections : List ℤ) (uncertainties : List ℕ) (x y z D : ℕ)
+    (u : Unit) (net : List ℕ) (corrections : List ℤ) (uncertainties : List ℕ) (x y z : ℤ) (D : ℕ)
     → (let v = netOf u in
     let correction = correctionAt (sizes u) corrections in
     let q = placing u x y z D in
@@ -212,7 +212,7 @@ ConstantBlock =
     → (corrections : List ℤ) (c : ℤ) → Constant (places (sizes u)) corrections c
     → (uncertainties : List ℕ)
     → lentChecks u (length net) (length corrections) (length uncertainties) ≡ Passed
-    → (x y z D : ℕ) → pointChecks u x y z D ≡ Passed
+    → (x y z : ℤ) (D : ℕ) → pointChecks u x y z D ≡ Passed
     → pointAnswer u net corrections uncertainties x y z D
     ≡ Value (record {
       numerator = c *ℤ pos (scale (degree v) D);
@@ -227,13 +227,13 @@ ConstantBlock =
 -- exactly those points pass that have a coordinate inside on every axis, the far face included.
 abbrev pub Admitted : Type 0
 Admitted =
-    (u : Unit) (x y z D : ℕ)
+    (u : Unit) (x y z : ℤ) (D : ℕ)
     → unitChecks u ≡ Passed → divisorChecks (netOf u) D ≡ Passed
     → (let E = extent (netOf u) in
     (pointChecks u x y z D ≡ Passed)
-    ↔ (CoordinateInside (E a1) (u .n1) x D
-    × CoordinateInside (E a2) (u .n2) y D
-    × CoordinateInside (E a3) (u .n3) z D))
+    ↔ (CoordinateInside (E a1) (u .n1) (u .o1) x D
+    × CoordinateInside (E a2) (u .n2) (u .o2) y D
+    × CoordinateInside (E a3) (u .n3) (u .o3) z D))
 
 -- ---- figures
 

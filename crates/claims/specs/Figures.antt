@@ -11,13 +11,15 @@ use Rattle.spline.specs.Build.{orderNet, simple}
 use Rattle.spline.specs.Multiplicities.{multiplicities, orderMultiplicities}
 use Rattle.spline.specs.Place.{a1, a2, a3, place}
 use Rattle.unit.specs.Checks.{refusal}
-use Rattle.unit.specs.Unit.{netOf}
+use Rattle.unit.specs.Unit.{emptyUnit, netOf, withBlock, withNet}
 use Rattle.unit.specs.declared.Checked.{Checked}
 use Rattle.unit.specs.declared.Checked.the-variants.{Passed, Stopped}
 use Rattle.unit.specs.declared.Refusal.{Refusal}
 use Rattle.unit.specs.declared.Unit.{Unit}
+use Rattle.unit.specs.declared.UnitAnswer.{UnitAnswer}
+use Rattle.unit.specs.declared.UnitAnswer.the-variants as units
 use Rattle.field.specs.Encoding.{encoding}
-use Rattle.field.specs.Load.{loadChecks}
+use Rattle.field.specs.Load.{loadAnswer, loadChecks}
 use Rattle.placing.specs.Place.{divisorChecks, liveCheck, pointChecks}
 use Rattle.placing.specs.Possible.{placingChecks}
 use Rattle.placing.specs.declared.Placing.{Placing}
@@ -28,19 +30,14 @@ use Rattle.live.specs.Answer.{liveAnswer}
 use Rattle.live.specs.declared.LiveAnswer.{LiveAnswer}
 use Rattle.live.specs.declared.LiveAnswer.the-variants as lives
 
--- a unit with a net of v1..v4 and a block of n1, n2, n3
+-- a unit with a net of v1..v4 and a block of n1, n2, n3 whose origin is 0
 abbrev pub unitWith : ℕ → ℕ → ℕ → ℕ → ℕ → ℕ → ℕ → Unit
-unitWith v1 v2 v3 v4 n1 n2 n3 = record {
-  «has_net» = true;
-  v1 = v1;
-  v2 = v2;
-  v3 = v3;
-  v4 = v4;
-  «has_block» = true;
-  n1 = n1;
-  n2 = n2;
-  n3 = n3;
-}
+unitWith v1 v2 v3 v4 n1 n2 n3 =
+    withBlock (withNet emptyUnit (multiplicities v1 v2 v3 v4)) n1 n2 n3 (pos 0) (pos 0) (pos 0)
+
+-- a unit with the simple net and a block of 2, 2, 2 with this origin
+abbrev pub smallFrom : ℤ → ℤ → ℤ → Unit
+smallFrom o1 o2 o3 = withBlock (withNet emptyUnit (multiplicities 1 1 1 1)) 2 2 2 o1 o2 o3
 
 pub data Figure : Type 0 where
   -- an order, a place of what it builds, and the number there
@@ -68,6 +65,12 @@ pub data Figure : Type 0 where
   placed : Unit → Placing → Checked → Figure
   -- the net and block of `point`: a placing, and N, U and the denominator
   valued : List ℤ → Placing → ℤ → ℕ → ℕ → Figure
+  -- the net and block of `point` with an origin: a point and a divisor, and N, U and the denominator
+  pointFrom : ℤ → ℤ → ℤ → List ℤ → ℤ → ℤ → ℤ → ℕ → ℤ → ℕ → ℕ → Figure
+  -- such an origin, a point and a divisor: which of 10, 11, 12 is met, if any
+  checkedFrom : ℤ → ℤ → ℤ → ℤ → ℤ → ℤ → ℕ → Checked → Figure
+  -- the bytes of a file, loaded by an empty unit into slices of 8: the unit then, or the refusal
+  file : List ℕ → UnitAnswer → Figure
 
 -- a placing in the cell (k, 1, 1), with an axis order and four weights
 abbrev pub placingIn : ℕ → ℕ → ℕ → ℕ → ℕ → ℕ → ℕ → ℕ → Placing
@@ -84,12 +87,12 @@ eightFives = 5 ∷ 5 ∷ 5 ∷ 5 ∷ 5 ∷ 5 ∷ 5 ∷ 5 ∷ []
 -- what the point call answers over such a block
 abbrev pub smallAnswer : List ℤ → List ℕ → ℕ → ℕ → ℕ → ℕ → PointAnswer
 smallAnswer corrections uncertainties x y z D =
-    pointAnswer (unitWith 1 1 1 1 2 2 2) simpleNumbers corrections uncertainties x y z D
+    pointAnswer (unitWith 1 1 1 1 2 2 2) simpleNumbers corrections uncertainties (pos x) (pos y) (pos z) D
 
 -- what the live call does where all uncertainties are 5, with the uncertainty
 abbrev pub smallLive : List ℤ → ℕ → ℕ → ℕ → ℕ → LiveAnswer
 smallLive corrections x y z D =
-    liveAnswer (unitWith 1 1 1 1 2 2 2) simpleNumbers corrections eightFives x y z D true
+    liveAnswer (unitWith 1 1 1 1 2 2 2) simpleNumbers corrections eightFives (pos x) (pos y) (pos z) D true
 
 -- what a figure says of the definitions
 abbrev pub Holds : Figure → Type 0
@@ -98,24 +101,30 @@ Holds (box order w1 w2 w3) =
     (width (orderMultiplicities order) a1 ≡ w1)
     × (width (orderMultiplicities order) a2 ≡ w2)
     × (width (orderMultiplicities order) a3 ≡ w3)
-Holds (divisor u x y z D checked) = pointChecks u x y z D ≡ checked
+Holds (divisor u x y z D checked) = pointChecks u (pos x) (pos y) (pos z) D ≡ checked
 Holds (point corrections x y z D N U d) =
     smallAnswer corrections eightFives x y z D
     ≡ Value (record { numerator = N; uncertainty = U; denominator = d })
 Holds (refused corrections uncertainties x y z D r) =
     smallAnswer corrections uncertainties x y z D ≡ Refused r
 Holds (load corrections uncertainties checked) =
-    loadChecks (encoding 2 2 2 corrections uncertainties) 8 8 ≡ checked
+    loadChecks (encoding 2 2 2 (pos 0) (pos 0) (pos 0) corrections uncertainties) 8 8 ≡ checked
 Holds (liveDivisor u D) = (divisorChecks (netOf u) D ≡ Passed) × (liveCheck (netOf u) D ≡ Passed)
 Holds (live corrections x y z D N U) =
     smallLive corrections x y z D
     ≡ lives.Both (record { numerator = ofBits binary64 N; uncertainty = ofBits binary64 U })
 Holds (liveRefused u places D n) =
-    liveAnswer u (tabulate (λ i. 0) places) (pos 0 ∷ []) (0 ∷ []) 0 0 0 D true ≡ lives.Refused (refusal n 0)
+    liveAnswer u (tabulate (λ i. 0) places) (pos 0 ∷ []) (0 ∷ []) (pos 0) (pos 0) (pos 0) D true
+    ≡ lives.Refused (refusal n 0)
 Holds (placed u q checked) = placingChecks u q ≡ checked
 Holds (valued corrections q N U d) =
     valuingAnswer (unitWith 1 1 1 1 2 2 2) simpleNumbers corrections eightFives q
     ≡ Value (record { numerator = N; uncertainty = U; denominator = d })
+Holds (pointFrom o1 o2 o3 corrections x y z D N U d) =
+    pointAnswer (smallFrom o1 o2 o3) simpleNumbers corrections eightFives x y z D
+    ≡ Value (record { numerator = N; uncertainty = U; denominator = d })
+Holds (checkedFrom o1 o2 o3 x y z D checked) = pointChecks (smallFrom o1 o2 o3) x y z D ≡ checked
+Holds (file bytes answer) = loadAnswer emptyUnit bytes (tabulate (λ i. pos 0) 8) eightFives ≡ answer
 
 abbrev pub AllHold : List Figure → Type 0
 AllHold [] = Prim.Unit {0}
@@ -133,10 +142,44 @@ oneGap = pos 100 ∷ negsuc 32767 ∷ pos 0 ∷ pos 0 ∷ pos 0 ∷ pos 0 ∷ po
 abbrev pub fivesButGap : List ℕ
 fivesButGap = 5 ∷ 0 ∷ 5 ∷ 5 ∷ 5 ∷ 5 ∷ 5 ∷ 5 ∷ []
 
+-- a file of one entry, 7 with uncertainty 5, and the origin −2, 300, −32768
+abbrev pub oneEntry : List ℕ
+oneEntry = 1 ∷ 0 ∷ 1 ∷ 0 ∷ 1 ∷ 0 ∷ 254 ∷ 255 ∷ 44 ∷ 1 ∷ 0 ∷ 128 ∷ 7 ∷ 0 ∷ 5 ∷ 0 ∷ []
+
+-- of files: that one; two of the layout before 0.7.0, with one entry and with two; 11 bytes and 12, where the
+-- first size is 0
+abbrev pub fileFigures : List Figure
+fileFigures =
+    file oneEntry (units.Changed (withBlock emptyUnit 1 1 1 (negsuc 1) (pos 300) (negsuc 32767)))
+    ∷ file (1 ∷ 0 ∷ 1 ∷ 0 ∷ 1 ∷ 0 ∷ 7 ∷ 0 ∷ 5 ∷ 0 ∷ []) (units.Refused (refusal 5 0))
+    ∷ file (2 ∷ 0 ∷ 1 ∷ 0 ∷ 1 ∷ 0 ∷ 7 ∷ 0 ∷ 8 ∷ 0 ∷ 5 ∷ 0 ∷ 6 ∷ 0 ∷ []) (units.Refused (refusal 7 0))
+    ∷ file (0 ∷ 0 ∷ 1 ∷ 0 ∷ 1 ∷ 0 ∷ 0 ∷ 0 ∷ 0 ∷ 0 ∷ 0 ∷ []) (units.Refused (refusal 5 0))
+    ∷ file (0 ∷ 0 ∷ 1 ∷ 0 ∷ 1 ∷ 0 ∷ 0 ∷ 0 ∷ 0 ∷ 0 ∷ 0 ∷ 0 ∷ []) (units.Refused (refusal 6 0))
+    ∷ []
+
+abbrev pub outside : Checked
+outside = Stopped (refusal 12 0)
+
+-- of origins: the points of `point` below, moved with the block; one step before the origin, and over 0;
+-- origins at both ends of 16 bits with the near face of their block, and with the end of 32 bits that is
+-- farthest from it; then of files
+abbrev pub originFigures : List Figure
+originFigures =
+    pointFrom (negsuc 1) (negsuc 0) (pos 5) twoEntries (negsuc 0) (pos 0) (pos 6) 1 (pos 100) 5 1
+    ∷ pointFrom (negsuc 1) (negsuc 0) (pos 5) twoEntries (negsuc 0) (pos 0) (pos 12) 2 (pos 60) 10 2
+    ∷ pointFrom (negsuc 1) (negsuc 0) (pos 5) twoEntries (pos 0) (pos 0) (pos 6) 1 (negsuc 39) 5 1
+    ∷ checkedFrom (negsuc 1) (negsuc 0) (pos 5) (negsuc 2) (pos 0) (pos 6) 1 outside
+    ∷ checkedFrom (negsuc 1) (negsuc 0) (pos 5) (negsuc 2) (pos 0) (pos 6) 0 (Stopped (refusal 10 0))
+    ∷ checkedFrom (pos 32767) (pos 0) (pos 0) (pos 134217728) (pos 4096) (pos 4096) 4096 Passed
+    ∷ checkedFrom (pos 32767) (pos 0) (pos 0) (negsuc 2147483647) (pos 4096) (pos 4096) 4096 outside
+    ∷ checkedFrom (negsuc 32767) (pos 0) (pos 0) (negsuc 134213631) (pos 4096) (pos 4096) 4096 Passed
+    ∷ checkedFrom (negsuc 32767) (pos 0) (pos 0) (pos 2147483647) (pos 4096) (pos 4096) 4096 outside
+    ∷ fileFigures
+
 -- of placings in a block of 3, 2, 2 under the simple net: possible is one on the far face; not so are its
 -- like in the cell before, a tie with the higher axis first, a cell outside, a sum of weights of 0 and one of
--- 2^32 + 2, and an axis that stands twice, which a unit without a block refuses by 22; then those of two points
--- below, valued
+-- 2^32 + 2, and an axis that stands twice, which a unit without a block refuses by 22; then those of two
+-- points below, valued; then of origins and files
 abbrev pub placingFigures : List Figure
 placingFigures =
     placed (unitWith 1 1 1 1 3 2 2) (placingIn 2 1 2 3 0 1 1 0) Passed
@@ -149,7 +192,7 @@ placingFigures =
     ∷ placed (unitWith 1 1 1 1 0 2 2) (placingIn 1 1 1 3 1 1 0 0) (Stopped (refusal 22 0))
     ∷ valued twoEntries (placingIn 1 1 2 3 1 1 0 0) (pos 60) 10 2
     ∷ valued twoEntries (placingIn 1 1 2 3 0 1 0 0) (negsuc 39) 5 1
-    ∷ []
+    ∷ originFigures
 
 -- of live calls: −40 and 5, 0 and 5; then degree 5 and degree 3, each at its largest divisor, where 12
 -- applies, and at one more, where 15 comes before it; and degree 5 where 11 comes before both; then of

@@ -8,3 +8,4 @@ pub mod Loads
 pub mod Factory
 pub mod Placings
 pub mod Halves
+pub mod Origins

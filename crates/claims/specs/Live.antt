@@ -68,7 +68,8 @@ pub record MeetsFifteen (u : Unit) (netLength correctionsLength uncertaintiesLen
 -- as floats.
 abbrev pub LiveExact : Type 0
 LiveExact =
-    (u : Unit) (net : List ℕ) (corrections : List ℤ) (uncertainties : List ℕ) (x y z D : ℕ) (flag : Bool)
+    (u : Unit) (net : List ℕ) (corrections : List ℤ) (uncertainties : List ℕ) (x y z : ℤ)
+    (D : ℕ) (flag : Bool)
     → (let answer = liveAnswer u net corrections uncertainties x y z D flag in
     ((r : Refusal) → answer ≡ Refused r → ⊥)
     → (f : Fraction)
@@ -78,7 +79,8 @@ LiveExact =
 -- And these floats are exactly N and U.
 abbrev pub LiveWhole : Type 0
 LiveWhole =
-    (u : Unit) (net : List ℕ) (corrections : List ℤ) (uncertainties : List ℕ) (x y z D : ℕ) (flag : Bool)
+    (u : Unit) (net : List ℕ) (corrections : List ℤ) (uncertainties : List ℕ) (x y z : ℤ)
+    (D : ℕ) (flag : Bool)
     → SixteenBits corrections uncertainties
     → (let answer = liveAnswer u net corrections uncertainties x y z D flag in
     ((r : Refusal) → answer ≡ Refused r → ⊥)
@@ -90,7 +92,8 @@ LiveWhole =
 -- else by the same number and place.
 abbrev pub LiveRefused : Type 0
 LiveRefused =
-    (u : Unit) (net : List ℕ) (corrections : List ℤ) (uncertainties : List ℕ) (x y z D : ℕ) (flag : Bool)
+    (u : Unit) (net : List ℕ) (corrections : List ℤ) (uncertainties : List ℕ) (x y z : ℤ)
+    (D : ℕ) (flag : Bool)
     → (r : Refusal) → pointAnswer u net corrections uncertainties x y z D ≡ points.Refused r
     → (let answer = liveAnswer u net corrections uncertainties x y z D flag in
     let Fifteen = MeetsFifteen u (length net) (length corrections) (length uncertainties) D in
@@ -99,7 +102,8 @@ LiveRefused =
 -- One that the exact call answers is answered here where m!×D^m is at most 2^37, and else refused by 15.
 abbrev pub LiveAnswered : Type 0
 LiveAnswered =
-    (u : Unit) (net : List ℕ) (corrections : List ℤ) (uncertainties : List ℕ) (x y z D : ℕ) (flag : Bool)
+    (u : Unit) (net : List ℕ) (corrections : List ℤ) (uncertainties : List ℕ) (x y z : ℤ)
+    (D : ℕ) (flag : Bool)
     → (f : Fraction) → pointAnswer u net corrections uncertainties x y z D ≡ points.Value f
     → (let answer = liveAnswer u net corrections uncertainties x y z D flag in
     (f .denominator ≤ liveLimit → answer ≡ liveValue flag (f .numerator) (f .uncertainty))
@@ -108,13 +112,14 @@ LiveAnswered =
 -- The flag changes no check.
 abbrev pub LiveFlag : Type 0
 LiveFlag =
-    (u : Unit) (net : List ℕ) (corrections : List ℤ) (uncertainties : List ℕ) (x y z D : ℕ) (r : Refusal)
+    (u : Unit) (net : List ℕ) (corrections : List ℤ) (uncertainties : List ℕ) (x y z : ℤ)
+    (D : ℕ) (r : Refusal)
     → (liveAnswer u net corrections uncertainties x y z D true ≡ Refused r)
     ↔ (liveAnswer u net corrections uncertainties x y z D false ≡ Refused r)
 
 -- In C the number of a live call is 0 exactly where it was not refused, whatever bytes record and flag hold.
 abbrev pub FlatLiveNumbers : Type 0
 FlatLiveNumbers =
-    (u : FlatUnit) (net : List ℕ) (corrections : List ℤ) (uncertainties : List ℕ) (x y z D flag : ℕ)
+    (u : FlatUnit) (net : List ℕ) (corrections : List ℤ) (uncertainties : List ℕ) (x y z : ℤ) (D flag : ℕ)
     → (let answer = liveAnswer (unitOf u) net corrections uncertainties x y z D (switchedOn flag) in
     (flatLive answer .number ≡ 0) ↔ ((r : Refusal) → answer ≡ Refused r → ⊥))

@@ -1,21 +1,22 @@
 -- The demands on loads and on the gaps of a block, each as one closed statement, and what they cite:
 -- Section 14.8.
-use mathlib.Core.Bool.{Bool, false}
+use mathlib.Core.Bool.{Bool, cond, false, true}
 use mathlib.Core.List.{List, _++_}
 use mathlib.Core.Logic.{_↔_}
 use mathlib.Core.Path.{_≡_}
-use Prim.Native.Nat.{_*_, _<_, _≤_, ℕ}
+use Prim.Native.Nat.{_*_, _+_, _<_, _≤_, ℕ}
+use lib.Dec.{eqb}
 use lib.IntN.{negsuc, ℤ}
 use lib.ListN.{drop, getD, length}
 use Rattle.spline.specs.Box.{places}
 use Rattle.unit.specs.Checks.{refusal}
 use Rattle.unit.specs.Gaps.{isGap}
-use Rattle.unit.specs.Unit.{withBlock}
+use Rattle.unit.specs.Unit.{sizesAllowed, withBlock}
 use Rattle.unit.specs.declared.Checked.the-variants.{Passed}
 use Rattle.unit.specs.declared.Unit.{Unit}
 use Rattle.unit.specs.declared.UnitAnswer.the-variants.{Changed, Refused}
 use Rattle.field.specs.Encoding.{WithinLimits, encoding}
-use Rattle.field.specs.File.{correction, entryCount, uncertainty}
+use Rattle.field.specs.File.{correction, entryCount, size1, size2, size3, uncertainty}
 use Rattle.field.specs.Load.{layoutChecks, loadAnswer, loadCorrections, loadUncertainties}
 use Rattle.placing.specs.Placing.{sizes}
 use Rattle.blending.specs.Blend.{numberAt, signedAt}
@@ -24,20 +25,34 @@ use Rattle.live.specs.Answer.{liveAnswer}
 
 -- ---- what a load equals
 
--- A file that encodes sizes and entries within limits, no gap with an uncertainty among them, is a list of
--- bytes. Loaded into slices with room it gives back exactly these: the unit has the sizes, the slices begin
--- with the entries, and past them they are as found.
+-- A file that encodes sizes and entries within limits, no gap with an uncertainty among them, and any origin
+-- of 16 bits is a list of bytes. Loaded into slices with room it gives back exactly these: the unit has the
+-- sizes and the origin, the slices begin with the entries, and past them they are as found.
 abbrev pub LoadGivesBack : Type 0
 LoadGivesBack =
-    (n1 n2 n3 : ℕ) (cs : List ℤ) (us : List ℕ) → WithinLimits n1 n2 n3 cs us
+    (n1 n2 n3 : ℕ) (o1 o2 o3 : ℤ) (cs : List ℤ) (us : List ℕ) → WithinLimits n1 n2 n3 o1 o2 o3 cs us
     → (let n = n1 * n2 * n3 in
-    let file = encoding n1 n2 n3 cs us in
+    let file = encoding n1 n2 n3 o1 o2 o3 cs us in
     ((i : ℕ) → getD file i 0 < 256)
     × ((u : Unit) (corrections : List ℤ) (uncertainties : List ℕ)
     → n ≤ length corrections → n ≤ length uncertainties
-    → (loadAnswer u file corrections uncertainties ≡ Changed (withBlock u n1 n2 n3))
+    → (loadAnswer u file corrections uncertainties ≡ Changed (withBlock u n1 n2 n3 o1 o2 o3))
     × (loadCorrections file corrections uncertainties ≡ cs ++ drop n corrections)
     × (loadUncertainties file corrections uncertainties ≡ us ++ drop n uncertainties)))
+
+-- ---- files without an origin
+
+-- A file of the layout before 0.7.0, allowed sizes and right behind them the two arrays of n entries, is
+-- refused whatever the unit and the slices are: by 5 where n is 1, else by 7. Both slices stay as found.
+abbrev pub OldLayout : Type 0
+OldLayout =
+    (u : Unit) (file : List ℕ) (corrections : List ℤ) (uncertainties : List ℕ)
+    → sizesAllowed (size1 file) (size2 file) (size3 file) ≡ true
+    → (let n = entryCount file in
+    length file ≡ 6 + 4 * n
+    → (loadAnswer u file corrections uncertainties ≡ Refused (refusal (cond (eqb n 1) 5 7) 0))
+    × (loadCorrections file corrections uncertainties ≡ corrections)
+    × (loadUncertainties file corrections uncertainties ≡ uncertainties))
 
 -- ---- 8 and 16
 
@@ -85,7 +100,8 @@ pub record DifferAtGaps (n : ℕ) (corrections : List ℤ) (us₁ us₂ : List �
 -- its gaps, from a version that did not look at 16, serves as the same block without them.
 abbrev pub GapsUncounted : Type 0
 GapsUncounted =
-    (u : Unit) (net : List ℕ) (corrections : List ℤ) (us₁ us₂ : List ℕ) (x y z D : ℕ) (flag : Bool)
+    (u : Unit) (net : List ℕ) (corrections : List ℤ) (us₁ us₂ : List ℕ) (x y z : ℤ)
+    (D : ℕ) (flag : Bool)
     → DifferAtGaps (places (sizes u)) corrections us₁ us₂
     → (pointAnswer u net corrections us₁ x y z D ≡ pointAnswer u net corrections us₂ x y z D)
     × (liveAnswer u net corrections us₁ x y z D flag ≡ liveAnswer u net corrections us₂ x y z D flag)

@@ -6,6 +6,7 @@ use mathlib.Core.Path.{_≡_}
 use Prim.Native.Nat.{_<_, _^_, _≤_, ℕ}
 use lib.IntN.{_*ℤ_, pos, ℤ}
 use lib.ListN.{length, take}
+use lib.Signed.{mag}
 use Rattle.spline.specs.Box.{places, width}
 use Rattle.spline.specs.Multiplicities.{Multiplicities, degree}
 use Rattle.unit.specs.Checks.{refusal}
@@ -35,16 +36,22 @@ use Rattle.claims.specs.Points.{BuiltOrPassed, Constant}
 -- the unit has a net and a block, and the placing call gives q at no coordinates, over whatever divisor
 pub record NeverGiven (u : Unit) (q : Placing) : Type 0 where
   pub equipped : unitChecks u ≡ Passed
-  pub at-no-point : (x y z D : ℕ) → placeAnswer u x y z D ≡ placings.Placed q → ⊥
+  pub at-no-point : (x y z : ℤ) (D : ℕ) → placeAnswer u x y z D ≡ placings.Placed q → ⊥
 
--- a point for which it does, in numbers of 32 bits
+-- a point for which it does, in numbers of 32 bits, the coordinates with a sign (`mag` of −(k + 1) is k)
 pub record GivenAt (u : Unit) (q : Placing) : Type 0 where
-  pub x : ℕ
-  pub y : ℕ
-  pub z : ℕ
+  pub x : ℤ
+  pub y : ℤ
+  pub z : ℤ
   pub D : ℕ
   pub given : placeAnswer u x y z D ≡ placings.Placed q
-  pub fits : (x < 2 ^ 32) × (y < 2 ^ 32) × (z < 2 ^ 32) × (D < 2 ^ 32)
+  pub fits : (mag x < 2 ^ 31) × (mag y < 2 ^ 31) × (mag z < 2 ^ 31) × (D < 2 ^ 32)
+
+-- each number of the origin has 16 bits, as in any unit that can be handed in
+pub record OriginFits (u : Unit) : Type 0 where
+  pub first : mag (u .o1) < 2 ^ 15
+  pub second : mag (u .o2) < 2 ^ 15
+  pub third : mag (u .o3) < 2 ^ 15
 
 -- Both valuing calls refuse a placing by 17 exactly where the placing call never gives it.
 abbrev pub Seventeen : Type 0
@@ -58,7 +65,7 @@ Seventeen =
 abbrev pub Given : Type 0
 Given =
     (u : Unit) (net : List ℕ) (corrections : List ℤ) (uncertainties : List ℕ) (q : Placing)
-    → unitChecks u ≡ Passed
+    → unitChecks u ≡ Passed → OriginFits u
     → (valuingAnswer u net corrections uncertainties q ≡ points.Refused (refusal 17 0) → ⊥)
     → GivenAt u q
 
@@ -76,7 +83,8 @@ NoPlacing =
 -- Where the placing call gives a placing, a point call on the same point answers what the valuing call does.
 abbrev pub TwoCalls : Type 0
 TwoCalls =
-    (u : Unit) (net : List ℕ) (corrections : List ℤ) (uncertainties : List ℕ) (x y z D : ℕ) (q : Placing)
+    (u : Unit) (net : List ℕ) (corrections : List ℤ) (uncertainties : List ℕ) (x y z : ℤ)
+    (D : ℕ) (q : Placing)
     → placeAnswer u x y z D ≡ placings.Placed q
     → pointAnswer u net corrections uncertainties x y z D ≡ valuingAnswer u net corrections uncertainties q
 
@@ -84,7 +92,8 @@ TwoCalls =
 -- looks at first, by 4 or 9.
 abbrev pub TwoRefused : Type 0
 TwoRefused =
-    (u : Unit) (net : List ℕ) (corrections : List ℤ) (uncertainties : List ℕ) (x y z D : ℕ) (r : Refusal)
+    (u : Unit) (net : List ℕ) (corrections : List ℤ) (uncertainties : List ℕ) (x y z : ℤ)
+    (D : ℕ) (r : Refusal)
     → placeAnswer u x y z D ≡ placings.Refused r
     → (let lent = lentChecks u (length net) (length corrections) (length uncertainties) in
     let answer = pointAnswer u net corrections uncertainties x y z D in
@@ -96,7 +105,8 @@ TwoRefused =
 -- other by the live valuing call; only where both apply do the two answer differently.
 abbrev pub LiveTwoCalls : Type 0
 LiveTwoCalls =
-    (u : Unit) (net : List ℕ) (corrections : List ℤ) (uncertainties : List ℕ) (x y z D : ℕ) (flag : Bool)
+    (u : Unit) (net : List ℕ) (corrections : List ℤ) (uncertainties : List ℕ) (x y z : ℤ)
+    (D : ℕ) (flag : Bool)
     → (q : Placing) → placeAnswer u x y z D ≡ placings.Placed q
     → (let room = roomChecks u (length net) (length corrections) (length uncertainties) in
     let size = scale (degree (netOf u)) D in
@@ -111,7 +121,8 @@ LiveTwoCalls =
 -- does, and else as the point call does.
 abbrev pub LiveTwoRefused : Type 0
 LiveTwoRefused =
-    (u : Unit) (net : List ℕ) (corrections : List ℤ) (uncertainties : List ℕ) (x y z D : ℕ) (flag : Bool)
+    (u : Unit) (net : List ℕ) (corrections : List ℤ) (uncertainties : List ℕ) (x y z : ℤ)
+    (D : ℕ) (flag : Bool)
     → (r : Refusal) → placeAnswer u x y z D ≡ placings.Refused r
     → (let lent = lentChecks u (length net) (length corrections) (length uncertainties) in
     let answer = liveAnswer u net corrections uncertainties x y z D flag in
@@ -159,7 +170,7 @@ PlacedConstantBlock =
     → (corrections : List ℤ) (c : ℤ) → Constant (places (sizes u)) corrections c
     → (uncertainties : List ℕ)
     → roomChecks u (length net) (length corrections) (length uncertainties) ≡ Passed
-    → (x y z D : ℕ) (q : Placing) → placeAnswer u x y z D ≡ placings.Placed q
+    → (x y z : ℤ) (D : ℕ) (q : Placing) → placeAnswer u x y z D ≡ placings.Placed q
     → valuingAnswer u net corrections uncertainties q
     ≡ points.Value (record {
       numerator = c *ℤ pos (scale (degree v) D);
@@ -174,7 +185,7 @@ PlacedConstantBlock =
 abbrev pub FlatPlacedNumbers : Type 0
 FlatPlacedNumbers =
     (u : FlatUnit)
-    → ((x y z D : ℕ)
+    → ((x y z : ℤ) (D : ℕ)
     → (let answer = placeAnswer (unitOf u) x y z D in
     (flatPlacing answer .number ≡ 0) ↔ ((q : Placing) × (answer ≡ placings.Placed q))))
     × ((net : List ℕ) (corrections : List ℤ) (uncertainties : List ℕ) (q : Placing)

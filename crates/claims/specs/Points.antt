@@ -2,9 +2,10 @@
 use mathlib.Core.Bool.{false}
 use mathlib.Core.List.{List}
 use mathlib.Core.Path.{_≡_}
-use Prim.Native.Nat.{_*_, _-_, _<_, _≤_, ℕ}
-use lib.IntN.{pos, ℤ}
+use Prim.Native.Nat.{_-_, _<_, _≤_, ℕ}
+use lib.IntN.{_*ℤ_, _+ℤ_, pos, ℤ}
 use lib.ListN.{getD, length}
+use lib.Signed.{_≤ℤ_}
 use Rattle.spline.specs.Multiplicities.{Multiplicities, orderMultiplicities}
 use Rattle.unit.specs.Gaps.{isGap}
 use Rattle.unit.specs.declared.Checked.the-variants.{Passed}
@@ -28,7 +29,8 @@ pub record Constant (n : ℕ) (corrections : List ℤ) (c : ℤ) : Type 0 where
   pub measured : isGap c ≡ false
   pub throughout : (i : ℕ) → i < n → getD corrections i (pos 0) ≡ c
 
--- Section 9.2: a coordinate over D is inside on an axis with extent E and n entries: from (E−1)×D to n×D,
--- both included
-abbrev pub CoordinateInside : ℕ → ℕ → ℕ → ℕ → Type 0
-CoordinateInside E n x D = (E ≤ n) × ((E - 1) * D ≤ x) × (x ≤ n * D)
+-- Section 9.2: a coordinate over D is inside on an axis with extent E, n entries and origin o: from
+-- (o + E − 1)×D to (o + n)×D, both included
+abbrev pub CoordinateInside : ℕ → ℕ → ℤ → ℤ → ℕ → Type 0
+CoordinateInside E n o x D =
+    (E ≤ n) × (((o +ℤ pos (E - 1)) *ℤ pos D) ≤ℤ x) × (x ≤ℤ ((o +ℤ pos n) *ℤ pos D))

@@ -41,14 +41,14 @@ pub data Met (r : Refusal) : Type 0 where
   by-factory : (u : Unit) (netLength : ℕ) → factoryAnswer u netLength ≡ units.Refused r → Met r
   by-load : (u : Unit) (file : List ℕ) (corrections : List ℤ) (uncertainties : List ℕ)
       → loadAnswer u file corrections uncertainties ≡ units.Refused r → Met r
-  by-placing : (u : Unit) (x y z D : ℕ) → placeAnswer u x y z D ≡ placings.Refused r → Met r
-  by-blending : (u : Unit) (net : List ℕ) (corrections : List ℤ) (uncertainties : List ℕ) (x y z D : ℕ)
+  by-placing : (u : Unit) (x y z : ℤ) (D : ℕ) → placeAnswer u x y z D ≡ placings.Refused r → Met r
+  by-blending : (u : Unit) (net : List ℕ) (corrections : List ℤ) (uncertainties : List ℕ) (x y z : ℤ) (D : ℕ)
       → blendAnswer u net corrections uncertainties x y z D ≡ placings.Refused r → Met r
   by-blending-placed : (u : Unit) (net : List ℕ) (corrections : List ℤ) (uncertainties : List ℕ) (q : Placing)
       → blendPlacedChecks u net corrections uncertainties q ≡ Stopped r → Met r
-  by-point : (u : Unit) (net : List ℕ) (corrections : List ℤ) (uncertainties : List ℕ) (x y z D : ℕ)
+  by-point : (u : Unit) (net : List ℕ) (corrections : List ℤ) (uncertainties : List ℕ) (x y z : ℤ) (D : ℕ)
       → pointAnswer u net corrections uncertainties x y z D ≡ points.Refused r → Met r
-  by-live : (u : Unit) (net : List ℕ) (corrections : List ℤ) (uncertainties : List ℕ) (x y z D : ℕ)
+  by-live : (u : Unit) (net : List ℕ) (corrections : List ℤ) (uncertainties : List ℕ) (x y z : ℤ) (D : ℕ)
       (flag : Bool) → liveAnswer u net corrections uncertainties x y z D flag ≡ lives.Refused r → Met r
   by-valuing : (u : Unit) (net : List ℕ) (corrections : List ℤ) (uncertainties : List ℕ) (q : Placing)
       → valuingAnswer u net corrections uncertainties q ≡ points.Refused r → Met r

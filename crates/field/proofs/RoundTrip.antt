@@ -1,4 +1,4 @@
--- A file that is the encoding of sizes and entries within limits is loaded as exactly these.
+-- A file that is the encoding of sizes, origin and entries within limits is loaded as exactly these.
 use mathlib.Core.Bool.{false}
 use mathlib.Core.List.{List, [], _++_, _∷_, map}
 use mathlib.Core.Logic.{⊎-elim}
@@ -23,8 +23,9 @@ use Rattle.unit.specs.declared.UnitAnswer.the-variants.{Changed}
 use Rattle.field.proofs.Accepted.{accepted-load}
 use Rattle.field.proofs.Twos.{bits-below, signed-bits}
 use Rattle.field.specs.Encoding.{WithinLimits, bits, encoding, littleEndian}
-use Rattle.field.specs.File.{correction, correctionsStart, entry, entryCount, fileLength, signed}
-use Rattle.field.specs.File.{size1, size2, size3, uncertaintiesStart, uncertainty, word}
+use Rattle.field.specs.File.{correction, correctionsStart, entry, entryCount, fileLength, origin1}
+use Rattle.field.specs.File.{origin2, origin3, signed, size1, size2, size3, uncertaintiesStart}
+use Rattle.field.specs.File.{uncertainty, word}
 use Rattle.field.specs.Load.{loadAnswer, loadChecks, loadCorrections, loadUncertainties}
 
 -- ---- 16-bit numbers as bytes
@@ -53,19 +54,25 @@ bytes-littleEndian (w ∷ ws) h (suc (suc i)) = bytes-littleEndian ws (λ j. h (
 
 -- ---- the fields of an encoding
 
-module _ (n1 n2 n3 : ℕ) (corrections : List ℤ) (uncertainties : List ℕ)
-    (l : WithinLimits n1 n2 n3 corrections uncertainties) where
+module _ (n1 n2 n3 : ℕ) (o1 o2 o3 : ℤ) (corrections : List ℤ) (uncertainties : List ℕ)
+    (l : WithinLimits n1 n2 n3 o1 o2 o3 corrections uncertainties) where
   abbrev n : ℕ
   n = n1 * n2 * n3
 
   abbrev file : List ℕ
-  file = encoding n1 n2 n3 corrections uncertainties
+  file = encoding n1 n2 n3 o1 o2 o3 corrections uncertainties
 
   abbrev coded : List ℕ
   coded = map bits corrections
 
   abbrev entries : List ℕ
   entries = coded ++ uncertainties
+
+  abbrev header : List ℕ
+  header = n1 ∷ n2 ∷ n3 ∷ bits o1 ∷ bits o2 ∷ bits o3 ∷ []
+
+  abbrev words : List ℕ
+  words = header ++ entries
 
   limits : BlockLimits n1 n2 n3
   limits = sizes-limits n1 n2 n3 (l .sizes)
@@ -75,15 +82,27 @@ module _ (n1 n2 n3 : ℕ) (corrections : List ℤ) (uncertainties : List ℕ)
 
   size1-is : size1 file ≡ n1
   unfolding encoding
-  size1-is = word-littleEndian (n1 ∷ n2 ∷ n3 ∷ entries) 0
+  size1-is = word-littleEndian words 0
 
   size2-is : size2 file ≡ n2
   unfolding encoding
-  size2-is = word-littleEndian (n1 ∷ n2 ∷ n3 ∷ entries) 1
+  size2-is = word-littleEndian words 1
 
   size3-is : size3 file ≡ n3
   unfolding encoding
-  size3-is = word-littleEndian (n1 ∷ n2 ∷ n3 ∷ entries) 2
+  size3-is = word-littleEndian words 2
+
+  origin1-is : origin1 file ≡ o1
+  unfolding encoding signed word
+  origin1-is = ap signed (word-littleEndian words 3) ∙ signed-bits o1 (l .origin1)
+
+  origin2-is : origin2 file ≡ o2
+  unfolding encoding signed word
+  origin2-is = ap signed (word-littleEndian words 4) ∙ signed-bits o2 (l .origin2)
+
+  origin3-is : origin3 file ≡ o3
+  unfolding encoding signed word
+  origin3-is = ap signed (word-littleEndian words 5) ∙ signed-bits o3 (l .origin3)
 
   count-is : entryCount file ≡ n
   count-is = simp (size1-is, size2-is, size3-is)
@@ -91,14 +110,16 @@ module _ (n1 n2 n3 : ℕ) (corrections : List ℤ) (uncertainties : List ℕ)
   length-is : length file ≡ fileLength n
   unfolding encoding
   length-is =
-      let doubled = length-littleEndian (n1 ∷ n2 ∷ n3 ∷ entries) in
+      let doubled = length-littleEndian words in
       omega (arith, doubled, length-append coded uncertainties, counted, l .count2)
 
   entry-is : (i : ℕ) → entry file correctionsStart i ≡ getD entries i 0
   unfolding encoding
   entry-is i =
-      let e : 6 + 2 * i ≡ 2 * suc (suc (suc i)) = omega arith in
-      ap (word file) e ∙ word-littleEndian (n1 ∷ n2 ∷ n3 ∷ entries) (suc (suc (suc i)))
+      let e : correctionsStart + 2 * i ≡ 2 * (length header + i) = omega arith in
+      ap (word file) e
+      ∙ word-littleEndian words (length header + i)
+      ∙ getD-append-add header entries i 0
 
   coded-is : (i : ℕ) → i < n → getD entries i 0 ≡ bits (getD corrections i (pos 0))
   unfolding bits
@@ -147,15 +168,18 @@ module _ (n1 n2 n3 : ℕ) (corrections : List ℤ) (uncertainties : List ℕ)
       (λ (h : 0 < n - i). corrections-below i (omega arith))
       (eq-zero-or-pos (n - i))
 
-  words-below : (i : ℕ) → getD (n1 ∷ n2 ∷ n3 ∷ entries) i 0 < 65536
+  words-below : (i : ℕ) → getD words i 0 < 65536
   words-below zero = omega (arith, limits .most1)
   words-below (suc zero) = omega (arith, limits .most2)
   words-below (suc (suc zero)) = omega (arith, limits .most3)
-  words-below (suc (suc (suc i))) = entries-below i
+  words-below (suc (suc (suc zero))) = bits-below o1 (l .origin1)
+  words-below (suc (suc (suc (suc zero)))) = bits-below o2 (l .origin2)
+  words-below (suc (suc (suc (suc (suc zero))))) = bits-below o3 (l .origin3)
+  words-below (suc (suc (suc (suc (suc (suc i)))))) = entries-below i
 
   pub encoding-bytes : (i : ℕ) → getD file i 0 < 256
   unfolding encoding
-  encoding-bytes = bytes-littleEndian (n1 ∷ n2 ∷ n3 ∷ entries) words-below
+  encoding-bytes = bytes-littleEndian words words-below
 
   -- ---- the load
 
@@ -175,9 +199,9 @@ module _ (n1 n2 n3 : ℕ) (corrections : List ℤ) (uncertainties : List ℕ)
           room2 = rw count-is room2;
         })
 
-    answer : (unit : Unit) → loadAnswer unit file c u ≡ Changed (withBlock unit n1 n2 n3)
+    answer : (unit : Unit) → loadAnswer unit file c u ≡ Changed (withBlock unit n1 n2 n3 o1 o2 o3)
     unfolding loadAnswer
-    answer unit = simp (passed, size1-is, size2-is, size3-is)
+    answer unit = simp (passed, size1-is, size2-is, size3-is, origin1-is, origin2-is, origin3-is)
 
     written1 : loadCorrections file c u ≡ corrections ++ drop n c
     unfolding loadCorrections filled
@@ -196,7 +220,7 @@ module _ (n1 n2 n3 : ℕ) (corrections : List ℤ) (uncertainties : List ℕ)
 
     -- the round trip, for any unit; past the n entries the slices are as found
     pub load-encoding : (unit : Unit)
-        → (loadAnswer unit file c u ≡ Changed (withBlock unit n1 n2 n3))
+        → (loadAnswer unit file c u ≡ Changed (withBlock unit n1 n2 n3 o1 o2 o3))
         × (loadCorrections file c u ≡ corrections ++ drop n c)
         × (loadUncertainties file c u ≡ uncertainties ++ drop n u)
     load-encoding unit = (answer unit, written1, written2)

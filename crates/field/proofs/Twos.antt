@@ -2,11 +2,19 @@
 use mathlib.Core.Path.{_∙_, _≡_, ap}
 use Prim.Native.Nat.{_-_, _<_, _≤_, suc, ℕ}
 use native.Mathlib.Omega.{arith}
+use borrow.Author.Needs.{sfits-of}
 use borrow.Author.Tests.{le-ltb, lt-ltb}
 use lib.IntN.{_-ℤ_, negsuc, pos, ℤ}
 use lib.Signed.{mag}
+use mir.Facts.{toZ-ofZ}
+use mir.Syntax.{w16}
+use mir.Val.{ofZ, toZ}
 use Rattle.field.specs.Encoding.{bits}
 use Rattle.field.specs.File.{signed}
+
+-- a signed number of 16 bits, read back from them
+pub read-back : {z y : ℤ} → mag z < 32768 → z ≡ y → toZ w16 (ofZ w16 z) ≡ y
+read-back h e = toZ-ofZ (sfits-of h) ∙ e
 
 -- the lower half stands for itself
 pub signed-low : (w : ℕ) → w < 32768 → signed w ≡ pos w

@@ -24,9 +24,19 @@ size2 file = word file 2
 abbrev pub size3 : List ℕ → ℕ
 size3 file = word file 4
 
+-- Section 8.2: the origin o1, o2, o3 behind them
+abbrev pub origin1 : List ℕ → ℤ
+origin1 file = signed (word file 6)
+
+abbrev pub origin2 : List ℕ → ℤ
+origin2 file = signed (word file 8)
+
+abbrev pub origin3 : List ℕ → ℤ
+origin3 file = signed (word file 10)
+
 -- Section 8.2: the bytes before the arrays
 abbrev pub headerLength : ℕ
-headerLength = 6
+headerLength = 12
 
 -- Section 4.3: the number n of entries
 abbrev pub entryCount : List ℕ → ℕ

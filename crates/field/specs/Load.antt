@@ -16,7 +16,7 @@ use Rattle.unit.specs.declared.Unit.{Unit}
 use Rattle.unit.specs.declared.UnitAnswer.{UnitAnswer}
 use Rattle.unit.specs.declared.UnitAnswer.the-variants.{Changed, Refused}
 use Rattle.field.specs.File.{correction, entryCount, fileLength, headerLength, uncertainty}
-use Rattle.field.specs.File.{size1, size2, size3}
+use Rattle.field.specs.File.{origin1, origin2, origin3, size1, size2, size3}
 
 -- Section 5.3: 5, 6 and 7, on the file's sizes and its length
 unfoldable pub layoutChecks : List ℕ → Checked
@@ -46,7 +46,8 @@ loadChecks file correctionsLength uncertaintiesLength =
 unfoldable pub loadAnswer : Unit → List ℕ → List ℤ → List ℕ → UnitAnswer
 loadAnswer u file corrections uncertainties =
     passedOr (loadChecks file (length corrections) (length uncertainties))
-    (Changed (withBlock u (size1 file) (size2 file) (size3 file)))
+    (Changed
+    (withBlock u (size1 file) (size2 file) (size3 file) (origin1 file) (origin2 file) (origin3 file)))
     Refused
 
 -- Section 8.4: the two block slices afterwards, their first n places filled from the file

@@ -1,19 +1,26 @@
-// The layout of a field file: the sizes that it starts with, and the numbers of its entries.
+// The layout of a field file: the sizes and the origin that it starts with, and the numbers of its entries.
 // docs/SPECIFICATION.md, Section 8.2.
 ghost use mathlib.Core.Path.{_≡_};
 ghost use Prim.Native.Nat.{_+_, _*_, _≤_, _<_};
 ghost use lib.ListN.{length};
 ghost use Rattle.field.specs.File.{word, signed, size1, size2, size3, headerLength};
+ghost use Rattle.field.specs.File.{origin1, origin2, origin3};
 ghost use Rattle.field.specs.File.{correction, correctionsStart, uncertainty};
 ghost use Rattle.field.specs.Inner.Entries.{HasEntries};
 
 // The bytes before the two arrays.
-pub(crate) const HEADER: usize = 6;
+pub(crate) const HEADER: usize = 12;
 
 pub(crate) struct Sizes {
     pub n1: u16,
     pub n2: u16,
     pub n3: u16,
+}
+
+pub(crate) struct Origin {
+    pub o1: i16,
+    pub o2: i16,
+    pub o3: i16,
 }
 
 impl Sizes {
@@ -38,6 +45,21 @@ impl Sizes {
     }
 }
 
+impl Origin {
+    // The origin, which follows the sizes.
+    pub(crate) fn read(file: &[u8]) -> Self
+        requires { ⌜ headerLength ≤ length (now file) ⌝ }
+        ensures { λ r. ⌜ (r .o1 ≡ origin1 (now (file .entry))) × (r .o2 ≡ origin2 (now (file .entry)))
+            × (r .o3 ≡ origin3 (now (file .entry))) ⌝ }
+    {
+        Origin {
+            o1: signed_at(file, 6),
+            o2: signed_at(file, 8),
+            o3: signed_at(file, 10),
+        }
+    }
+}
+
 // The unsigned 16-bit number that starts at a byte of the file.
 fn word_at(file: &[u8], at: usize) -> u16
     requires { ⌜ at + 1 < length (now file) ⌝ }
@@ -59,12 +81,20 @@ fn to_signed(w: u16) -> i16
     }
 }
 
+// The signed 16-bit number that starts at a byte of the file.
+fn signed_at(file: &[u8], at: usize) -> i16
+    requires { ⌜ at + 1 < length (now file) ⌝ }
+    ensures { λ r. ⌜ r ≡ signed (word (now (file .entry)) at) ⌝ }
+{
+    to_signed(word_at(file, at))
+}
+
 // The correction of entry i.
 pub(crate) fn correction_at(file: &[u8], i: usize) -> i16
     requires { ⌜ correctionsStart + 2 * i + 1 < length (now file) ⌝ }
     ensures { λ r. ⌜ r ≡ correction (now (file .entry)) i ⌝ }
 {
-    to_signed(word_at(file, HEADER + 2 * i))
+    signed_at(file, HEADER + 2 * i)
 }
 
 // The uncertainty of entry i of n.

@@ -8,6 +8,7 @@ ghost use Rattle.field.specs.File.{correction, correctionsStart, uncerta
 ghost use Rattle.field.specs.Inner.Entries.{HasEntries};
 ghost use Rattle.field.specs.Load.{loadAnswer, loadCorrections, loadUncertainties};
 use crate::checks::check_load;
+use crate::file::Origin;
 use crate::file::Sizes;
 use crate::file::correction_at;
 use crate::file::uncertainty_at;
@@ -40,7 +41,7 @@ fn read_uncertainties(file: &[u8], n: usize, uncertainties: &mut [u16])
     }
 }
 
-// Loads a field file: its numbers go to the start of the two slices, and its sizes to the unit.
+// Loads a field file: its entries go to the start of the two slices, its sizes and its origin to the unit.
 pub fn load(
     unit: Unit,
     file: &[u8],
@@ -58,8 +59,16 @@ pub fn load(
         return UnitAnswer::Refused(refusal);
     }
     let sizes = Sizes::read(file);
+    let origin = Origin::read(file);
     let n = sizes.entries();
     read_corrections(file, n, corrections);
     read_uncertainties(file, n, uncertainties);
-    UnitAnswer::Changed(unit.with_block(sizes.n1, sizes.n2, sizes.n3))
+    UnitAnswer::Changed(unit.with_block(
+        sizes.n1,
+        sizes.n2,
+        sizes.n3,
+        origin.o1,
+        origin.o2,
+        origin.o3,
+    ))
 }

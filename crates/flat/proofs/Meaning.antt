@@ -3,6 +3,7 @@ use mathlib.Core.Logic.{_↔_}
 use mathlib.Core.Path.{_≡_, refl}
 use Prim.Native.Nat.{ℕ}
 use native.Mathlib.Omega.{arith}
+use lib.IntN.{ℤ}
 use Rattle.spline.specs.Multiplicities.{Multiplicities}
 use Rattle.unit.specs.Unit.{emptyUnit, withBlock, withNet}
 use Rattle.unit.specs.declared.Refusal.{Refusal}
@@ -29,9 +30,10 @@ pub net-stands : (before : FlatUnit) (v : Multiplicities)
 net-stands before v = refl
 
 -- the record of a load that was not refused stands for the unit that has the block
-pub block-stands : (before : FlatUnit) (n1 n2 n3 : ℕ)
-    → unitOf (blockHalf before (withBlock (unitOf before) n1 n2 n3)) ≡ withBlock (unitOf before) n1 n2 n3
-block-stands before n1 n2 n3 = refl
+pub block-stands : (before : FlatUnit) (n1 n2 n3 : ℕ) (o1 o2 o3 : ℤ)
+    → (let loaded = withBlock (unitOf before) n1 n2 n3 o1 o2 o3 in
+    unitOf (blockHalf before loaded) ≡ loaded)
+block-stands before n1 n2 n3 o1 o2 o3 = refl
 
 -- ---- numbers
 

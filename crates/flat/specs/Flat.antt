@@ -30,11 +30,27 @@ unitOf u = record {
   n1 = u .n1;
   n2 = u .n2;
   n3 = u .n3;
+  o1 = u .o1;
+  o2 = u .o2;
+  o3 = u .o3;
 }
 
 -- Section 4.1: the empty unit as a record
 abbrev pub emptyFlat : FlatUnit
-emptyFlat = record { «has_net» = 0; v1 = 0; v2 = 0; v3 = 0; v4 = 0; «has_block» = 0; n1 = 0; n2 = 0; n3 = 0 }
+emptyFlat = record {
+  «has_net» = 0;
+  v1 = 0;
+  v2 = 0;
+  v3 = 0;
+  v4 = 0;
+  «has_block» = 0;
+  n1 = 0;
+  n2 = 0;
+  n3 = 0;
+  o1 = pos 0;
+  o2 = pos 0;
+  o3 = pos 0;
+}
 
 -- Section 12.1: the record `before` with the net of a unit; every byte of its block half is kept
 abbrev pub netHalf : FlatUnit → Unit → FlatUnit
@@ -48,6 +64,9 @@ netHalf before after = record {
   n1 = before .n1;
   n2 = before .n2;
   n3 = before .n3;
+  o1 = before .o1;
+  o2 = before .o2;
+  o3 = before .o3;
 }
 
 -- Section 12.1: the record `before` with the block of a unit; every byte of its net half is kept
@@ -62,6 +81,9 @@ blockHalf before after = record {
   n1 = after .n1;
   n2 = after .n2;
   n3 = after .n3;
+  o1 = after .o1;
+  o2 = after .o2;
+  o3 = after .o3;
 }
 
 -- Section 12.2: the answer of a call that sets the net half and was handed the record `before`: a refusal's

@@ -22,6 +22,9 @@ pub struct FlatUnit {
     pub n1: u16,
     pub n2: u16,
     pub n3: u16,
+    pub o1: i16,
+    pub o2: i16,
+    pub o3: i16,
 }
 
 // What a call that changes the unit answers: 0, 0 and the changed record; or the number and the place of
@@ -76,6 +79,9 @@ pub fn unit_of(flat: FlatUnit) -> Unit
         n1: flat.n1,
         n2: flat.n2,
         n3: flat.n3,
+        o1: flat.o1,
+        o2: flat.o2,
+        o3: flat.o3,
     }
 }
 
@@ -97,6 +103,9 @@ pub fn flat_net(before: FlatUnit, answer: UnitAnswer) -> FlatUnitAnswer
                 n1: before.n1,
                 n2: before.n2,
                 n3: before.n3,
+                o1: before.o1,
+                o2: before.o2,
+                o3: before.o3,
             },
         },
         UnitAnswer::Refused(refusal) => FlatUnitAnswer {
@@ -125,6 +134,9 @@ pub fn flat_block(before: FlatUnit, answer: UnitAnswer) -> FlatUnitAnswer
                 n1: after.n1,
                 n2: after.n2,
                 n3: after.n3,
+                o1: after.o1,
+                o2: after.o2,
+                o3: after.o3,
             },
         },
         UnitAnswer::Refused(refusal) => FlatUnitAnswer {

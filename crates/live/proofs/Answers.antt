@@ -42,7 +42,7 @@ switched-off N U e = rw e refl
 
 -- ---- checks
 
-module _ (u : Unit) (net : List ℕ) (corrections : List ℤ) (uncertainties : List ℕ) (x y z D : ℕ)
+module _ (u : Unit) (net : List ℕ) (corrections : List ℤ) (uncertainties : List ℕ) (x y z : ℤ) (D : ℕ)
     (withUncertainty : Bool) where
   abbrev answer : LiveAnswer
   answer = liveAnswer u net corrections uncertainties x y z D withUncertainty

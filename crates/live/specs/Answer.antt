@@ -11,7 +11,7 @@ use Rattle.unit.specs.Unit.{netOf}
 use Rattle.unit.specs.declared.Checked.{Checked}
 use Rattle.unit.specs.declared.Unit.{Unit}
 use Rattle.placing.specs.Place.{divisorChecks, insideCheck, lentChecks, liveCheck, roomChecks}
-use Rattle.placing.specs.Placing.{cells, placing, sizes}
+use Rattle.placing.specs.Placing.{placing, sizes}
 use Rattle.placing.specs.Possible.{livePlacingChecks}
 use Rattle.placing.specs.declared.Placing.{Placing}
 use Rattle.blending.specs.Blend.{correctionAt, numberAt, uncertaintyAt, windowChecks}
@@ -28,14 +28,14 @@ abbrev pub liveValue : Bool → ℤ → ℕ → LiveAnswer
 liveValue true N U = Both (record { numerator = float N; uncertainty = float (pos U) })
 liveValue false N U = Shift (float N)
 
-module _ (u : Unit) (net : List ℕ) (corrections : List ℤ) (uncertainties : List ℕ) (x y z D : ℕ) where
+module _ (u : Unit) (net : List ℕ) (corrections : List ℤ) (uncertainties : List ℕ) (x y z : ℤ) (D : ℕ) where
   -- Section 11.8: all checks in their order
   unfoldable pub liveChecks : Checked
   liveChecks =
       andThen (lentChecks u (length net) (length corrections) (length uncertainties))
       (andThen (divisorChecks (netOf u) D)
       (andThen (liveCheck (netOf u) D)
-      (andThen (insideCheck (netOf u) (sizes u) (cells u x y z D))
+      (andThen (insideCheck u x y z D)
       (windowChecks (netOf u) (sizes u) (numberAt net) (correctionAt (sizes u) corrections)
       (placing u x y z D)))))
 

@@ -1,4 +1,5 @@
--- A placing that is possible is that of a point: of k×D + u on every axis, with u the remainder there.
+-- A placing that is possible is that of a point: of (o + k)×D + u on every axis, with o the origin and u the
+-- remainder there.
 use mathlib.Core.Bool.{Bool, cond, false, true}
 use mathlib.Core.Logic.{_⊎_, inl, inr}
 use mathlib.Core.Path.{_∙_, _≡_, ap, refl}
@@ -8,6 +9,7 @@ use native.Mathlib.Nat.{mul-add-mod-self-left, mul-le-mul, mul-le-mul-left, pos-
 use native.Mathlib.Omega.{arith}
 use borrow.Author.Tests.{le-leb, lt-leb}
 use lib.Dec.{eqb, leb}
+use lib.IntN.{_*ℤ_, _+ℤ_, pos, ℤ}
 use Rattle.spline.specs.Multiplicities.{extent}
 use Rattle.spline.specs.Place.{Axis, a1, a2, a3}
 use Rattle.unit.proofs.Limits.{BlockLimits, block-limits}
@@ -16,10 +18,12 @@ use Rattle.unit.specs.declared.Checked.the-variants.{Passed}
 use Rattle.unit.specs.declared.Unit.{Unit}
 use Rattle.placing.proofs.Cells.{cell-inside, inside-axes, off-face, on-face}
 use Rattle.placing.proofs.FieldTests.{Possible}
+use Rattle.placing.proofs.Origin.{read-past}
 use Rattle.placing.proofs.Placed.{divisor-passes, equipped}
 use Rattle.placing.specs.Inner.Ranking.{Axes, o123, o132, o213, o231, o312, o321}
-use Rattle.placing.specs.Place.{insideCheck, placeAnswer, pointChecks, unitChecks}
-use Rattle.placing.specs.Placing.{axisNumber, insideOn, located, onAxes, placing, placingBy}
+use Rattle.placing.specs.Place.{cellCheck, insideCheck, signCheck, placeAnswer, pointChecks}
+use Rattle.placing.specs.Place.{unitChecks}
+use Rattle.placing.specs.Placing.{axisNumber, fromOrigin, insideOn, located, onAxes, placing, placingBy}
 use Rattle.placing.specs.Placing.{placingCell, rankAxes, sizes, weightSum, withThird}
 use Rattle.placing.specs.Possible.{remainderOn}
 use Rattle.placing.specs.declared.Placing.{Placing}
@@ -117,9 +121,13 @@ remainder-le q a = go (eqb a (q .p)) (eqb a (q .r))
     go false true = omega arith
     go false false = omega arith
 
--- the coordinate over D that a placing stands for
-abbrev pub coordinate : Placing → Axis → ℕ
-coordinate q b = weightSum q * placingCell q b + remainderOn q (axisNumber b)
+-- how far from the origin the point of a placing lies on an axis
+abbrev pub distanceOn : Placing → Axis → ℕ
+distanceOn q b = weightSum q * placingCell q b + remainderOn q (axisNumber b)
+
+-- and its coordinate over D, where the origin is o
+abbrev pub coordinate : Placing → Axis → ℤ → ℤ
+coordinate q b o = pos (distanceOn q b) +ℤ o *ℤ pos (weightSum q)
 
 module _ (u : Unit) (q : Placing) (e : unitChecks u ≡ Passed) (h : Possible u q) where
   abbrev D : ℕ
@@ -128,12 +136,12 @@ module _ (u : Unit) (q : Placing) (e : unitChecks u ≡ Passed) (h : Possible u 
   limits : BlockLimits (u .n1) (u .n2) (u .n3)
   limits = block-limits u (equipped u e .block-held) .limits
 
-  -- an axis with its coordinate: this lies in the cell, and is small
+  -- an axis with its distance: this lies in the cell, and is small
   abbrev Back : ℕ → Axis → Type 0
   Back n b =
-      (located (coordinate q b) D n
+      (located (distanceOn q b) D n
       ≡ record { cell = placingCell q b; remainder = remainderOn q (axisNumber b) })
-      × (coordinate q b ≤ 262144)
+      × (distanceOn q b ≤ 262144)
 
   back-on : (b : Axis) (n : ℕ) → 1 ≤ n → n ≤ 64 → insideOn (extent (netOf u) b) n (placingCell q b) ≡ true
       → (remainderOn q (axisNumber b) ≡ D → placingCell q b ≡ n - 1) → Back n b
@@ -154,22 +162,51 @@ module _ (u : Unit) (q : Placing) (e : unitChecks u ≡ Passed) (h : Possible u 
         back-on a3 (u .n3) (limits .least3) (limits .most3) (i .2) (h .face3),
       )
 
-  placing-back : placing u (coordinate q a1) (coordinate q a2) (coordinate q a3) D ≡ q
+  -- the point that the placing stands for
+  abbrev pub x : ℤ
+  x = coordinate q a1 (u .o1)
+
+  abbrev pub y : ℤ
+  y = coordinate q a2 (u .o2)
+
+  abbrev pub z : ℤ
+  z = coordinate q a3 (u .o3)
+
+  read1 : fromOrigin x (u .o1) D ≡ pos (distanceOn q a1)
+  read1 = read-past (distanceOn q a1) (u .o1) D
+
+  read2 : fromOrigin y (u .o2) D ≡ pos (distanceOn q a2)
+  read2 = read-past (distanceOn q a2) (u .o2) D
+
+  read3 : fromOrigin z (u .o3) D ≡ pos (distanceOn q a3)
+  read3 = read-past (distanceOn q a3) (u .o3) D
+
+  placing-back : placing u x y z D ≡ q
   unfolding placing
   placing-back =
-      rw (back .0 .0, back .1 .0, back .2 .0)
+      rw (read1, read2, read3, back .0 .0, back .1 .0, back .2 .0)
       (ranked-back (placingCell q) (q .l0) (q .l1) (q .l2) (q .l3) (h .axes) (h .first-tie) (h .second-tie))
 
-  checks-passed : pointChecks u (coordinate q a1) (coordinate q a2) (coordinate q a3) D ≡ Passed
-  unfolding pointChecks insideCheck
+  checks-passed : pointChecks u x y z D ≡ Passed
+  unfolding pointChecks insideCheck signCheck cellCheck
   checks-passed =
-      rw (back .0 .0, back .1 .0, back .2 .0, divisor-passes (netOf u) D (h .divisor), h .point-inside) refl
+      rw (
+        read1,
+        read2,
+        read3,
+        back .0 .0,
+        back .1 .0,
+        back .2 .0,
+        divisor-passes (netOf u) D (h .divisor),
+        h .point-inside,
+      )
+      refl
 
   -- the placing call gives it for this point
-  pub given-back : placeAnswer u (coordinate q a1) (coordinate q a2) (coordinate q a3) D ≡ Placed q
+  pub given-back : placeAnswer u x y z D ≡ Placed q
   unfolding placeAnswer
   given-back = rw (e, checks-passed, placing-back) refl
 
-  -- whose coordinates are small
-  pub coordinates-small : (coordinate q a1 ≤ 262144) × (coordinate q a2 ≤ 262144) × (coordinate q a3 ≤ 262144)
-  coordinates-small = (back .0 .1, back .1 .1, back .2 .1)
+  -- which is not far from the origin
+  pub distances-small : (distanceOn q a1 ≤ 262144) × (distanceOn q a2 ≤ 262144) × (distanceOn q a3 ≤ 262144)
+  distances-small = (back .0 .1, back .1 .1, back .2 .1)

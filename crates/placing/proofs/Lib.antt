@@ -1,4 +1,5 @@
 pub mod Cells
+pub mod Origin
 pub mod Ranks
 pub mod Scale
 pub mod Placed

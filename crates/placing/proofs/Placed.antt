@@ -6,6 +6,7 @@ use native.Mathlib.Nat.{pos-of-ne-zero}
 use native.Mathlib.Omega.{arith}
 use borrow.Author.Tests.{eqb-false, le-ltb, ltb-false, ne-eqb, not-false}
 use lib.Dec.{eqb, ltb}
+use lib.IntN.{ℤ}
 use Rattle.spline.specs.Box.{places, width}
 use Rattle.spline.specs.Multiplicities.{Multiplicities, degree}
 use Rattle.unit.proofs.Checks.{if-passed, if-stopped, or-false, room-passed, then-passed}
@@ -15,9 +16,11 @@ use Rattle.unit.specs.declared.Checked.{Checked}
 use Rattle.unit.specs.declared.Checked.the-variants.{Passed, Stopped}
 use Rattle.unit.specs.declared.Refusal.{Refusal}
 use Rattle.unit.specs.declared.Unit.{Unit}
-use Rattle.placing.specs.Place.{divisorChecks, insideCheck, lentChecks, limit, liveCheck, liveLimit}
-use Rattle.placing.specs.Place.{placeAnswer, pointChecks, roomChecks, scale, unitChecks}
-use Rattle.placing.specs.Placing.{cells, inside, placing, sizes}
+use Rattle.placing.proofs.Origin.{NoneNegative, signs-passed}
+use Rattle.placing.specs.Place.{cellCheck, divisorChecks, insideCheck, lentChecks, limit, liveCheck}
+use Rattle.placing.specs.Place.{liveLimit, signCheck, placeAnswer, pointChecks, roomChecks, scale}
+use Rattle.placing.specs.Place.{unitChecks}
+use Rattle.placing.specs.Placing.{cells, fromOrigin, inside, placing, sizes}
 use Rattle.placing.specs.declared.Placing.{Placing}
 use Rattle.placing.specs.declared.PlacingAnswer.the-variants as answers
 
@@ -112,17 +115,25 @@ pub live-accepted : (v : Multiplicities) (D : ℕ) → liveCheck v D ≡ Passed 
 unfolding liveCheck
 live-accepted v D h = ltb-false _ _ (if-passed 15 _ _ h .0)
 
-pub record PointAccepted (u : Unit) (x y z D : ℕ) : Type 0 where
+pub record PointAccepted (u : Unit) (x y z : ℤ) (D : ℕ) : Type 0 where
   pub divisor : DivisorAccepted (netOf u) D
+  pub past-origin : NoneNegative (fromOrigin x (u .o1) D) (fromOrigin y (u .o2) D) (fromOrigin z (u .o3) D)
   pub point-inside : inside (netOf u) (sizes u) (cells u x y z D) ≡ true
 
--- a point that passes 10, 11 and 12: its divisor is within limits, and its cell is inside
-pub point-accepted : (u : Unit) (x y z D : ℕ) → pointChecks u x y z D ≡ Passed → PointAccepted u x y z D
-unfolding pointChecks insideCheck
+-- a point that passes 10, 11 and 12: its divisor is within limits, it is not before the origin, and its cell
+-- is inside
+pub point-accepted : (u : Unit) (x y z : ℤ) (D : ℕ) → pointChecks u x y z D ≡ Passed
+    → PointAccepted u x y z D
+unfolding pointChecks insideCheck cellCheck
 point-accepted u x y z D h =
     let a = then-passed (divisorChecks (netOf u) D) _ h in
-    let b = if-passed 12 _ _ (a .1) in
-    record { divisor = divisor-accepted (netOf u) D (a .0); point-inside = not-false _ (b .0) }
+    let b = then-passed (signCheck _ _ _) (cellCheck (netOf u) (sizes u) (cells u x y z D)) (a .1) in
+    let c = if-passed 12 _ _ (b .1) in
+    record {
+      divisor = divisor-accepted (netOf u) D (a .0);
+      past-origin = signs-passed _ _ _ (b .0);
+      point-inside = not-false _ (c .0);
+    }
 
 -- ---- what a placing call answered
 
@@ -138,7 +149,7 @@ pub placed-by : (k : Checked) (q : Placing) {t : Placing}
 placed-by Passed q h = (refl, cc)
 placed-by (Stopped s) q h = let z : _≡_ {A = ℕ} 0 1 = cc in absurd (omega arith)
 
-module _ (u : Unit) (x y z D : ℕ) (e : unitChecks u ≡ Passed) where
+module _ (u : Unit) (x y z : ℤ) (D : ℕ) (e : unitChecks u ≡ Passed) where
   -- for a unit that passes, a refusal is that of the point's checks
   pub place-refused : {r : Refusal} → placeAnswer u x y z D ≡ answers.Refused r
       → pointChecks u x y z D ≡ Stopped r

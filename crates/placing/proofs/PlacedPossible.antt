@@ -4,13 +4,15 @@ use mathlib.Core.Path.{_∙_, _≡_, refl, sym}
 use Prim.Native.Nat.{_-_, _<_, _≤_, ℕ}
 use native.Mathlib.Nat.{mod-lt}
 use native.Mathlib.Omega.{arith}
+use lib.IntN.{ℤ}
 use Rattle.spline.specs.Place.{Axis, a1, a2, a3}
 use Rattle.unit.specs.declared.Unit.{Unit}
 use Rattle.placing.proofs.Cells.{by-face}
 use Rattle.placing.proofs.FieldTests.{Possible}
 use Rattle.placing.proofs.Placed.{PointAccepted}
 use Rattle.placing.proofs.Ranks.{Before, ordered, placing-axes, rank-cases, weights-add-up}
-use Rattle.placing.specs.Placing.{axisNumber, located, onAxes, placing, placingBy, rankAxes}
+use Rattle.placing.specs.Placing.{axisNumber, blockCells, distance, located, onAxes, placing}
+use Rattle.placing.specs.Placing.{placingBy, rankAxes}
 use Rattle.placing.specs.Possible.{remainderOn}
 
 -- the remainders, from the weights of a placing
@@ -40,27 +42,28 @@ tie-first : (u : Axis → ℕ) (a b : Axis) → Before u a b → u a - u b ≡ 0
 tie-first u a b (inl l) e = absurd (omega arith)
 tie-first u a b (inr h) e = h .1
 
-module _ (u : Unit) (x y z D : ℕ) where
+module _ (u : Unit) (x y z : ℤ) (D : ℕ) where
   -- a point past its checks has a possible placing
   pub placed-possible : PointAccepted u x y z D → Possible u (placing u x y z D)
   unfolding placing
   placed-possible p =
       let some = p .divisor .some in
       let adds = weights-add-up u x y z D some in
-      let r = onAxes (located x D (u .n1) .remainder) (located y D (u .n2) .remainder)
-      (located z D (u .n3) .remainder) in
+      let a = distance x (u .o1) D in
+      let b = distance y (u .o2) D in
+      let c = distance z (u .o3) D in
+      let r = onAxes (located a D (u .n1) .remainder) (located b D (u .n2) .remainder)
+      (located c D (u .n3) .remainder) in
       let t = rankAxes r in
       let o = ordered r in
-      let are =
-      remainders-are
-      (onAxes (located x D (u .n1) .cell) (located y D (u .n2) .cell) (located z D (u .n3) .cell)) r D in
+      let are = remainders-are (blockCells u a b c D) r D in
       record {
         axes = placing-axes u x y z D;
         divisor = rw adds (p .divisor);
         point-inside = p .point-inside;
         first-tie = tie-first r (t .p) (t .r) (o .first);
         second-tie = tie-first r (t .r) (t .s) (o .second);
-        face1 = λ e. last-cell x D (u .n1) some (sym (are .0) ∙ e ∙ adds);
-        face2 = λ e. last-cell y D (u .n2) some (sym (are .1) ∙ e ∙ adds);
-        face3 = λ e. last-cell z D (u .n3) some (sym (are .2) ∙ e ∙ adds);
+        face1 = λ e. last-cell a D (u .n1) some (sym (are .0) ∙ e ∙ adds);
+        face2 = λ e. last-cell b D (u .n2) some (sym (are .1) ∙ e ∙ adds);
+        face3 = λ e. last-cell c D (u .n3) some (sym (are .2) ∙ e ∙ adds);
       }

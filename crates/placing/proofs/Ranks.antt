@@ -7,13 +7,14 @@ use native.Mathlib.Nat.{eq-or-lt-of-le}
 use native.Mathlib.Omega.{arith}
 use borrow.Author.Tests.{leb-false, leb-true}
 use lib.Dec.{leb}
+use lib.IntN.{ℤ}
 use Rattle.spline.specs.Place.{Axis, a1, a2, a3}
 use Rattle.unit.specs.declared.Unit.{Unit}
 use Rattle.placing.proofs.Cells.{remainder-most}
 use Rattle.placing.specs.Inner.Ranking.{Axes, inOrder, o123, o132, o213, o231, o312, o321}
 use Rattle.placing.specs.Inner.Ranking.{ranked, ranking, thirdAmong}
-use Rattle.placing.specs.Placing.{AxisRanks, axisNumber, axisRanks, onAxes, placing, rankAxes}
-use Rattle.placing.specs.Placing.{weightSum, withThird}
+use Rattle.placing.specs.Placing.{AxisRanks, axisNumber, axisRanks, distance, onAxes, placing}
+use Rattle.placing.specs.Placing.{rankAxes, weightSum, withThird}
 use Rattle.placing.specs.declared.ranking.Ranking.{Ranking}
 
 -- axis 3 among two others is ranked as the definition has it
@@ -112,14 +113,15 @@ falling u1 u2 u3 D h1 h2 h3 =
       second = before-le u (o .r) (o .s) (r .second);
     }
 
-module _ (u : Unit) (x y z D : ℕ) where
+module _ (u : Unit) (x y z : ℤ) (D : ℕ) where
   -- the weights of a point's placing add up to its divisor
   pub weights-add-up : 1 ≤ D → weightSum (placing u x y z D) ≡ D
   unfolding placing
   weights-add-up h =
       let f =
-      falling _ _ _ D (remainder-most x D (u .n1) h) (remainder-most y D (u .n2) h)
-      (remainder-most z D (u .n3) h) in
+      falling _ _ _ D (remainder-most (distance x (u .o1) D) D (u .n1) h)
+      (remainder-most (distance y (u .o2) D) D (u .n2) h)
+      (remainder-most (distance z (u .o3) D) D (u .n3) h) in
       omega arith
 
   -- the axes p, r, s of a placing are the three axes

@@ -2,6 +2,7 @@
 use mathlib.Core.Bool.{Bool, _&&_, cond}
 use Prim.Native.Nat.{_%_, _*_, _+_, _-_, _/_, ℕ}
 use lib.Dec.{eqb, leb}
+use lib.IntN.{_*ℤ_, _-ℤ_, natAbs, pos, ℤ}
 use Rattle.spline.specs.Multiplicities.{Multiplicities, extent}
 use Rattle.spline.specs.Place.{Axis, a1, a2, a3}
 use Rattle.unit.specs.declared.Unit.{Unit}
@@ -23,17 +24,31 @@ axisNumber a3 = 3
 abbrev pub sizes : Unit → Axis → ℕ
 sizes u = onAxes (u .n1) (u .n2) (u .n3)
 
--- Section 9.1: cell and remainder of a coordinate over D, on an axis with n entries; the far face, at n×D,
+-- Section 9.1: a coordinate X, read from the origin o of its axis
+unfoldable pub fromOrigin : ℤ → ℤ → ℕ → ℤ
+fromOrigin x o D = x -ℤ o *ℤ pos D
+
+-- Section 9.1: its distance from there; of a coordinate before the origin this counts for nothing, since 12
+-- refuses the point
+abbrev pub distance : ℤ → ℤ → ℕ → ℕ
+distance x o D = natAbs (fromOrigin x o D)
+
+-- Section 9.1: cell and remainder of a distance over D, on an axis with n entries; the far face, at n×D,
 -- belongs to the last cell
 unfoldable pub located : ℕ → ℕ → ℕ → Located
 located x D n =
     cond (eqb x (n * D)) (record { cell = n - 1; remainder = D })
     (record { cell = x / D; remainder = x % D })
 
--- Section 9.1: the cell of X, Y, Z over D in a unit's block
-abbrev pub cells : Unit → ℕ → ℕ → ℕ → ℕ → Axis → ℕ
-cells u x y z D =
+-- Section 9.1: the cell of a point in a unit's block, by its distances from the origin
+abbrev pub blockCells : Unit → ℕ → ℕ → ℕ → ℕ → Axis → ℕ
+blockCells u x y z D =
     onAxes (located x D (u .n1) .cell) (located y D (u .n2) .cell) (located z D (u .n3) .cell)
+
+-- Section 9.1: the cell of X, Y, Z over D in a unit's block
+abbrev pub cells : Unit → ℤ → ℤ → ℤ → ℕ → Axis → ℕ
+cells u x y z D =
+    blockCells u (distance x (u .o1) D) (distance y (u .o2) D) (distance z (u .o3) D) D
 
 -- Section 9.2: inside on an axis
 abbrev pub insideOn : ℕ → ℕ → ℕ → Bool
@@ -86,9 +101,14 @@ placingOn x y z D =
     let u = onAxes (x .remainder) (y .remainder) (z .remainder) in
     placingBy (onAxes (x .cell) (y .cell) (z .cell)) u D (rankAxes u)
 
+-- Section 9.4: the placing of a point in a unit's block, by its distances from the origin
+abbrev pub blockPlacing : Unit → ℕ → ℕ → ℕ → ℕ → Placing
+blockPlacing u x y z D = placingOn (located x D (u .n1)) (located y D (u .n2)) (located z D (u .n3)) D
+
 -- Section 9.4: the placing of X, Y, Z over D in a unit's block
-unfoldable pub placing : Unit → ℕ → ℕ → ℕ → ℕ → Placing
-placing u x y z D = placingOn (located x D (u .n1)) (located y D (u .n2)) (located z D (u .n3)) D
+unfoldable pub placing : Unit → ℤ → ℤ → ℤ → ℕ → Placing
+placing u x y z D =
+    blockPlacing u (distance x (u .o1) D) (distance y (u .o2) D) (distance z (u .o3) D) D
 
 -- k of a placing
 abbrev pub placingCell : Placing → Axis → ℕ

@@ -3,9 +3,14 @@
 ghost use mathlib.Core.Path.{_≡_};
 ghost use mathlib.Core.Bool.{true};
 ghost use Prim.Native.Nat.{_+_, _≤_};
+ghost use lib.IntN.{natAbs};
+ghost use Rattle.unit.specs.Checks.{passedOr};
 ghost use Rattle.unit.specs.Unit.{netOf, hasBlock};
-ghost use Rattle.placing.specs.Placing.{inside, insideOn, located, onAxes, placingOn, sizes};
-ghost use Rattle.placing.specs.Place.{insideCheck, lentChecks, placeAnswer, unitChecks};
+ghost use Rattle.placing.specs.Inner.Reading.{farthest};
+ghost use Rattle.placing.specs.Placing.{blockCells, blockPlacing, fromOrigin, inside, insideOn};
+ghost use Rattle.placing.specs.Placing.{located, onAxes, placingOn, sizes};
+ghost use Rattle.placing.specs.Place.{cellCheck, lentChecks, signCheck, placeAnswer, unitChecks};
+ghost use Rattle.placing.specs.declared.PlacingAnswer.the-variants.{Placed, Refused};
 use shape::Counts;
 use unit::Checked;
 use unit::Refusal;
@@ -37,13 +42,37 @@ pub enum PlacingAnswer {
     Refused(Refusal),
 }
 
+// A coordinate, read from the origin of its axis; in 64 bits, since it may be past 32.
+fn from_origin(x: i32, origin: i16, divisor: u32) -> i64
+    requires { ⌜ divisor ≤ 4096 ⌝ }
+    ensures { λ r. ⌜ (r ≡ fromOrigin x origin divisor) × (natAbs r ≤ farthest) ⌝ }
+{
+    x as i64 - origin as i64 * divisor as i64
+}
+
+// Check 12, of coordinates read from the origin.
+fn check_signs(x: i64, y: i64, z: i64) -> Checked
+    ensures { λ r. ⌜ r ≡ signCheck x y z ⌝ }
+{
+    if x < 0 {
+        return Checked::stop(12, 0);
+    }
+    if y < 0 {
+        return Checked::stop(12, 0);
+    }
+    if z < 0 {
+        return Checked::stop(12, 0);
+    }
+    Checked::Passed
+}
+
 // Cell and remainder of a coordinate.
 struct Located {
     cell: u32,
     remainder: u32,
 }
 
-// Where a coordinate lies on an axis with so many entries.
+// Where a coordinate lies on an axis with so many entries, by its distance from the origin.
 fn locate(x: u32, divisor: u32, size: u16) -> Located
     requires { ⌜ (1 ≤ divisor) × (divisor ≤ 4096) × (1 ≤ size) ⌝ }
     ensures { λ r. ⌜ r ≡ located x divisor size ⌝ }
@@ -107,10 +136,10 @@ fn is_inside(unit: Unit, k1: u32, k2: u32, k3: u32) -> bool
     inside_on(unit.v3, unit.v4, unit.n3, k3)
 }
 
-// Check 12, by the cell.
-fn check_inside(unit: Unit, k1: u32, k2: u32, k3: u32) -> Checked
+// Check 12, of the cell.
+fn check_cell(unit: Unit, k1: u32, k2: u32, k3: u32) -> Checked
     requires { ⌜ hasBlock unit ≡ true ⌝ }
-    ensures { λ r. ⌜ r ≡ insideCheck (netOf unit) (sizes unit) (onAxes k1 k2 k3) ⌝ }
+    ensures { λ r. ⌜ r ≡ cellCheck (netOf unit) (sizes unit) (onAxes k1 k2 k3) ⌝ }
 {
     if !is_inside(unit, k1, k2, k3) {
         return Checked::stop(12, 0);
@@ -145,8 +174,23 @@ pub fn check_lent(unit: Unit, net: usize, corrections: usize, uncertainties: usi
     unit::check_block_room(n, corrections, uncertainties)
 }
 
+// The placing of a point by its distances from the origin, or 12.
+fn place_in_block(unit: Unit, x: u32, y: u32, z: u32, divisor: u32) -> PlacingAnswer
+    requires { ⌜ (hasBlock unit ≡ true) × (1 ≤ divisor) × (divisor ≤ 4096) ⌝ }
+    ensures { λ r. ⌜ r ≡ passedOr (cellCheck (netOf unit) (sizes unit) (blockCells unit x y z divisor))
+        (Placed (blockPlacing unit x y z divisor)) Refused ⌝ }
+{
+    let a = locate(x, divisor, unit.n1);
+    let b = locate(y, divisor, unit.n2);
+    let c = locate(z, divisor, unit.n3);
+    if let Checked::Stopped(refusal) = check_cell(unit, a.cell, b.cell, c.cell) {
+        return PlacingAnswer::Refused(refusal);
+    }
+    PlacingAnswer::Placed(placing_of(a, b, c, divisor))
+}
+
 // The placing of the point X, Y, Z over a divisor, or the first refusal that applies of 21, 22, 10, 11, 12.
-pub fn place(unit: Unit, x: u32, y: u32, z: u32, divisor: u32) -> PlacingAnswer
+pub fn place(unit: Unit, x: i32, y: i32, z: i32, divisor: u32) -> PlacingAnswer
     ensures { λ r. ⌜ r ≡ placeAnswer unit x y z divisor ⌝ }
 {
     if let Checked::Stopped(refusal) = check_unit(unit) {
@@ -155,11 +199,11 @@ pub fn place(unit: Unit, x: u32, y: u32, z: u32, divisor: u32) -> PlacingAnswer
     if let Checked::Stopped(refusal) = divisor::check_divisor(unit, divisor) {
         return PlacingAnswer::Refused(refusal);
     }
-    let a = locate(x, divisor, unit.n1);
-    let b = locate(y, divisor, unit.n2);
-    let c = locate(z, divisor, unit.n3);
-    if let Checked::Stopped(refusal) = check_inside(unit, a.cell, b.cell, c.cell) {
+    let a = from_origin(x, unit.o1, divisor);
+    let b = from_origin(y, unit.o2, divisor);
+    let c = from_origin(z, unit.o3, divisor);
+    if let Checked::Stopped(refusal) = check_signs(a, b, c) {
         return PlacingAnswer::Refused(refusal);
     }
-    PlacingAnswer::Placed(placing_of(a, b, c, divisor))
+    place_in_block(unit, a as u32, b as u32, c as u32, divisor)
 }

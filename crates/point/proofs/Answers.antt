@@ -115,7 +115,7 @@ module _ (u : Unit) (net : List ℕ) (corrections : List ℤ) (uncertainties : L
 
   -- ---- the point call
 
-  module _ (x y z D : ℕ) where
+  module _ (x y z : ℤ) (D : ℕ) where
     abbrev q : Placing
     q = placing u x y z D
 

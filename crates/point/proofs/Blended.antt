@@ -4,12 +4,15 @@ use mathlib.Core.Path.{_∙_, _≡_, ap, subst, sym}
 use Prim.Native.Nat.{_<_, ℕ}
 use lib.IntN.{pos, ℤ}
 use lib.ListN.{getD}
+use mir.Syntax.{w32}
+use mir.Val.{SFits, ofZ, toZ}
 use Rattle.sums.proofs.Fill.{filled-at}
 use Rattle.spline.specs.Multiplicities.{degree}
 use Rattle.unit.specs.Unit.{netOf}
 use Rattle.unit.specs.declared.Checked.{Checked}
 use Rattle.unit.specs.declared.Checked.the-variants.{Passed}
 use Rattle.unit.specs.declared.Unit.{Unit}
+use Rattle.placing.proofs.Origin.{handed-on}
 use Rattle.placing.specs.Place.{scale}
 use Rattle.placing.specs.Placing.{placing, weightSum}
 use Rattle.placing.specs.declared.Placing.{Placing}
@@ -78,23 +81,42 @@ module _ (u : Unit) (net : List ℕ) (corrections : List ℤ) (uncertainties : L
           shift-is spread-is);
     }
 
-  -- one of a point, that answers a placing, is at the point's
-  module _ {q : Placing} {shifts : List ℤ} {spreads : List ℕ} (x y z D : ℕ) (d : List ℤ) (e : List ℕ)
+  -- one of a point, that answers a placing, is at the point's; the coordinates were handed on to it
+  module _ {q : Placing} {shifts : List ℤ} {spreads : List ℕ} {x y z : ℤ} (D : ℕ) (d : List ℤ) (e : List ℕ)
+      (fx : SFits w32 x) (fy : SFits w32 y) (fz : SFits w32 z)
       (answered : blendAnswer u net corrections uncertainties x y z D ≡ Placed q)
-      (shifts-are : shifts ≡ blendedCorrections u net corrections uncertainties x y z D d)
-      (spreads-are : spreads ≡ blendedUncertainties u net corrections uncertainties x y z D e)
+      (shifts-are : shifts
+      ≡ blendedCorrections u net corrections uncertainties (toZ w32 (ofZ w32 x)) (toZ w32 (ofZ w32 y))
+      (toZ w32 (ofZ w32 z)) D d)
+      (spreads-are : spreads
+      ≡ blendedUncertainties u net corrections uncertainties (toZ w32 (ofZ w32 x)) (toZ w32 (ofZ w32 y))
+      (toZ w32 (ofZ w32 z)) D e)
       (sized : Sized u net corrections uncertainties q) where
-    placed : (blendChecks u net corrections uncertainties x y z D ≡ Passed) × (q ≡ placing u x y z D)
+    abbrev checks : Checked
+    checks = blendChecks u net corrections uncertainties x y z D
+
+    placed : (checks ≡ Passed) × (q ≡ placing u x y z D)
     placed = blend-placed u net corrections uncertainties x y z D answered
 
+    shifts-at : shifts ≡ writtenIf checks (blendedCorrectionAt u net corrections (placing u x y z D)) u d
+    unfolding blendedCorrections
+    shifts-at =
+        shifts-are
+        ∙ handed-on (λ x y z. blendedCorrections u net corrections uncertainties x y z D d) fx fy fz
+
+    spreads-at : spreads
+        ≡ writtenIf checks (blendedUncertaintyAt u net uncertainties (placing u x y z D)) u e
+    unfolding blendedUncertainties
+    spreads-at =
+        spreads-are
+        ∙ handed-on (λ x y z. blendedUncertainties u net corrections uncertainties x y z D e) fx fy fz
+
     pub blended-point : Blended q shifts spreads
-    unfolding blendedCorrections blendedUncertainties
     blended-point =
         let q-is = sym (placed .1) in
-        blended {k = blendChecks u net corrections uncertainties x y z D} d e (placed .0)
+        blended {k = checks} d e (placed .0)
         (subst (Scaled m) q-is (scaled-of u net corrections uncertainties x y z D (placed .0)))
-        (subst (λ p. shifts ≡ writtenIf (blendChecks u net corrections uncertainties x y z D)
-        (blendedCorrectionAt u net corrections p) u d) q-is shifts-are)
-        (subst (λ p. spreads ≡ writtenIf (blendChecks u net corrections uncertainties x y z D)
-        (blendedUncertaintyAt u net uncertainties p) u e) q-is spreads-are)
+        (subst (λ p. shifts ≡ writtenIf checks (blendedCorrectionAt u net corrections p) u d) q-is shifts-at)
+        (subst (λ p. spreads ≡ writtenIf checks (blendedUncertaintyAt u net uncertainties p) u e) q-is
+        spreads-at)
         sized

@@ -32,7 +32,7 @@ valueAnswer v n net corrections uncertainties q D =
     Refused
 
 -- Section 11.4: the answer
-unfoldable pub pointAnswer : Unit → List ℕ → List ℤ → List ℕ → ℕ → ℕ → ℕ → ℕ → PointAnswer
+unfoldable pub pointAnswer : Unit → List ℕ → List ℤ → List ℕ → ℤ → ℤ → ℤ → ℕ → PointAnswer
 pointAnswer u net corrections uncertainties x y z D =
     let n = sizes u in
     passedOr

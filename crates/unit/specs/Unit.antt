@@ -2,6 +2,7 @@
 use mathlib.Core.Bool.{Bool, _&&_, false, true}
 use Prim.Native.Nat.{_*_, ℕ}
 use lib.Dec.{leb}
+use lib.IntN.{pos, ℤ}
 use Rattle.spline.specs.Multiplicities.{Multiplicities, allowed, multiplicities}
 use Rattle.unit.specs.declared.Unit.{Unit}
 
@@ -17,6 +18,9 @@ emptyUnit = record {
   n1 = 0;
   n2 = 0;
   n3 = 0;
+  o1 = pos 0;
+  o2 = pos 0;
+  o3 = pos 0;
 }
 
 -- Section 4.1: the four multiplicities in a unit
@@ -51,11 +55,14 @@ withNet u v = record {
   n1 = u .n1;
   n2 = u .n2;
   n3 = u .n3;
+  o1 = u .o1;
+  o2 = u .o2;
+  o3 = u .o3;
 }
 
--- Section 4.4: the unit with its block half set
-abbrev pub withBlock : Unit → ℕ → ℕ → ℕ → Unit
-withBlock u n1 n2 n3 = record {
+-- Section 4.4: the unit with its block half set, sizes and origin
+abbrev pub withBlock : Unit → ℕ → ℕ → ℕ → ℤ → ℤ → ℤ → Unit
+withBlock u n1 n2 n3 o1 o2 o3 = record {
   «has_net» = u .«has_net»;
   v1 = u .v1;
   v2 = u .v2;
@@ -65,4 +72,7 @@ withBlock u n1 n2 n3 = record {
   n1 = n1;
   n2 = n2;
   n3 = n3;
+  o1 = o1;
+  o2 = o2;
+  o3 = o3;
 }

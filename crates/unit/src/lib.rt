@@ -17,6 +17,9 @@ pub struct Unit {
     pub n1: u16,
     pub n2: u16,
     pub n3: u16,
+    pub o1: i16,
+    pub o2: i16,
+    pub o3: i16,
 }
 
 // A refusal: its number, and the place that it speaks of, 0 where it speaks of none.
@@ -85,6 +88,9 @@ impl Unit {
             n1: 0,
             n2: 0,
             n3: 0,
+            o1: 0,
+            o2: 0,
+            o3: 0,
         }
     }
 
@@ -122,14 +128,17 @@ impl Unit {
         self
     }
 
-    // The unit with a block of these sizes; its net half is kept.
-    pub fn with_block(mut self, n1: u16, n2: u16, n3: u16) -> Self
-        ensures { λ r. ⌜ r ≡ withBlock self n1 n2 n3 ⌝ }
+    // The unit with a block of these sizes and this origin; its net half is kept.
+    pub fn with_block(mut self, n1: u16, n2: u16, n3: u16, o1: i16, o2: i16, o3: i16) -> Self
+        ensures { λ r. ⌜ r ≡ withBlock self n1 n2 n3 o1 o2 o3 ⌝ }
     {
         self.has_block = true;
         self.n1 = n1;
         self.n2 = n2;
         self.n3 = n3;
+        self.o1 = o1;
+        self.o2 = o2;
+        self.o3 = o3;
         self
     }
 }

@@ -4,7 +4,12 @@ use crate::unit::Sizes;
 use std::collections::BTreeSet;
 
 fn unit(v: [usize; 4], n: [usize; 3]) -> Unit {
-    Unit::EMPTY.with_net(Multiplicities::new(v).unwrap()).with_block(Sizes::new(n).unwrap())
+    Unit::EMPTY.with_net(Multiplicities::new(v).unwrap()).with_block(Sizes::new(n).unwrap(), [0; 3])
+}
+
+/// Where the first entry stands, as a coordinate over this divisor.
+fn start(unit: &Unit, divisor: u32) -> [i32; 3] {
+    unit.o.map(|o| i32::from(o) * divisor as i32)
 }
 
 /// That of the example in docs/SPECIFICATION.md, 9.6.
@@ -52,20 +57,24 @@ fn the_placings_worked_by_hand() {
     assert_eq!(place([17, 5, 7]), Err(Refusal::from(12)));
 }
 
-/// What a search through all coordinates finds.
+/// What a search through all coordinates of the block finds.
 fn all_placings(unit: &Unit, largest_divisor: u32) -> BTreeSet<Placing> {
     let n = unit.n.map(u32::from);
-    let points = |divisor| lists(n.map(|n| n * divisor + 1)).into_iter().map(move |point| (point, divisor));
-    let placed = (0..=largest_divisor).flat_map(points).map(|(point, divisor)| place(unit, point, divisor));
-    placed.flatten().collect()
+    let place_each = |divisor| {
+        let start = start(unit, divisor);
+        // from one before the first entry to one past the far face
+        let points = lists(n.map(|n| n * divisor + 2)).into_iter();
+        points.map(move |steps| place(unit, [0, 1, 2].map(|b| start[b] - 1 + steps[b] as i32), divisor))
+    };
+    (0..=largest_divisor).flat_map(place_each).flatten().collect()
 }
 
 #[test]
 fn few_coordinates_decide_what_all_do() {
     const WEIGHT: u32 = 2;
     let short = unit([1, 1, 1, 1], [2, 1, 2]);
-    let units = [unit([1, 1, 1, 1], [2, 2, 2]), unit([1, 1, 1, 1], [3, 2, 2]), unit([2, 1, 1, 1], [3, 2, 3]), short];
-    for unit in units {
+    let moved = Unit { o: [-1, 32767, -32768], ..unit([1, 1, 1, 1], [3, 2, 2]) };
+    for unit in [unit([1, 1, 1, 1], [2, 2, 2]), moved, unit([2, 1, 1, 1], [3, 2, 3]), short] {
         let possible = all_placings(&unit, 4 * WEIGHT);
         assert_eq!(possible.is_empty(), unit == short);
         for cell in lists(unit.n.map(u32::from)) {
@@ -81,9 +90,15 @@ fn few_coordinates_decide_what_all_do() {
 
 #[test]
 fn the_point_that_is_found_is_placed_so() {
-    for point in lists([18, 13, 9]) {
-        if let Ok(placing) = place(&example(), point, 4) {
-            assert_eq!(point_of(&example(), &placing), Ok((point, 4)));
+    for o in [[0; 3], [-3, 1, -1], [32767, -32768, 0]] {
+        let unit = Unit { o, ..example() };
+        let start = start(&unit, 4);
+        for steps in lists([18, 13, 9]).into_iter().map(|steps| steps.map(|c| c as i32)) {
+            let point = [0, 1, 2].map(|b| start[b] + steps[b]);
+            assert_eq!(place(&unit, point, 4), place(&example(), steps, 4));
+            if let Ok(placing) = place(&unit, point, 4) {
+                assert_eq!(point_of(&unit, &placing), Ok((point, 4)));
+            }
         }
     }
 }

@@ -13,22 +13,23 @@ fn small(second: i16) -> Block {
 }
 
 /// The call of a unit that has this net and this block.
-fn call(block: &Block, v: [usize; 4], coordinates: [u32; 3], divisor: u32) -> Call<'_> {
+fn call(block: &Block, v: [usize; 4], coordinates: [i32; 3], divisor: u32) -> Call<'_> {
     let multiplicities = Multiplicities::new(v).unwrap();
-    let unit = Unit::EMPTY.with_net(multiplicities).with_block(block.sizes);
+    let unit = Unit::EMPTY.with_net(multiplicities).with_block(block.sizes, block.origin);
     let (corrections, uncertainties) = (&block.corrections[..], &block.uncertainties[..]);
     Call { unit, net_length: multiplicities.places(), corrections, uncertainties, coordinates, divisor }
 }
 
-fn ask(block: &Block, v: [usize; 4], coordinates: [u32; 3], divisor: u32) -> Result<Fraction, Refusal> {
+fn ask(block: &Block, v: [usize; 4], coordinates: [i32; 3], divisor: u32) -> Result<Fraction, Refusal> {
     answer(&call(block, v, coordinates, divisor))
 }
 
 /// A point on each far face, on each edge of two and at the far corner, elsewhere in the last cells.
-fn far_points(sizes: Sizes, divisor: u32) -> Vec<[u32; 3]> {
+fn far_points(sizes: Sizes, divisor: u32) -> Vec<[i32; 3]> {
+    let divisor = divisor as i32;
     let remainder = [divisor / 3, divisor / 2, divisor / 5];
     let coordinate = |faces: usize, b: usize| {
-        let n = sizes.axes()[b] as u32;
+        let n = sizes.axes()[b] as i32;
         if faces >> b & 1 == 1 { n * divisor } else { (n - 1) * divisor + remainder[b] }
     };
     (1..8).map(|faces| [0, 1, 2].map(|b| coordinate(faces, b))).collect()
@@ -87,7 +88,7 @@ fn a_gap_of_the_window_is_named_whatever_its_uncertainty() {
 #[test]
 fn divisors_of_degree_5() {
     let block = Block::constant(Sizes::new([4, 4, 4]).unwrap(), 7, 0);
-    let number = |divisor| ask(&block, [2; 4], [3 * divisor; 3], divisor).map_err(|refusal| refusal.number);
+    let number = |d: u32| ask(&block, [2; 4], [3 * d as i32; 3], d).map_err(|refusal| refusal.number);
     assert!(number(297).is_ok());
     assert_eq!(number(298), Err(11));
     assert_eq!(number(0), Err(10));
@@ -162,4 +163,53 @@ fn on_a_far_face_the_last_window_may_have_no_gap() {
     let needed: Vec<usize> = (0..sizes.entries()).filter(|&index| answered(index).is_err()).collect();
     assert_eq!(needed, [2, 3, 4, 7, 8, 9, 17, 18, 19, 22, 23, 24]);
     assert!(needed.iter().all(|&index| answered(index) == Err(Refusal::at(13, index))));
+}
+
+/// At the ends of the numbers that an origin can be, and around 0.
+const ORIGINS: [[i16; 3]; 6] =
+    [[-32768, 0, 0], [0, 32767, 0], [0, 0, -1], [1, -1, 1], [32767, 32767, 32767], [-32768, 32767, -32768]];
+
+/// The point that is in a block with this origin where the point handed in is in one with origin 0.
+fn moved(point: [i32; 3], origin: [i16; 3], divisor: u32) -> [i32; 3] {
+    [0, 1, 2].map(|b| point[b] + i32::from(origin[b]) * divisor as i32)
+}
+
+#[test]
+fn a_moved_block_answers_the_moved_point() {
+    let v = [2, 1, 1, 1];
+    let net = Net::of(Multiplicities::new(v).unwrap());
+    for divisor in [1, 7, 4096] {
+        let at_zero = Block::random(sizes_for(v), &mut Random::new(10));
+        let inside = [3, 1, 2].map(|k| k * divisor as i32 + divisor as i32 / 3);
+        for origin in ORIGINS {
+            let block = at_zero.clone().moved_to(origin);
+            for point in [vec![inside, [0; 3], [-1; 3]], far_points(block.sizes, divisor)].concat() {
+                let there = moved(point, origin, divisor);
+                let answer = ask(&block, v, there, divisor);
+                assert_eq!(answer, ask(&at_zero, v, point, divisor), "{origin:?} {point:?}");
+                assert_eq!(answer, lent::answer(&call(&block, v, there, divisor), &net.numbers));
+                assert_eq!(answer, answer_without_tables(&call(&block, v, there, divisor)));
+            }
+        }
+    }
+}
+
+#[test]
+fn both_ends_of_an_axis_are_inside_wherever_it_begins() {
+    let v = [2, 1, 1, 1];
+    for origin in ORIGINS {
+        let block = Block::constant(Sizes::new([4, 3, 3]).unwrap(), 1, 1).moved_to(origin);
+        for (divisor, axis) in [(1, 0), (3, 1), (4096, 2), (4096, 0)] {
+            let number = |coordinate: i32| {
+                let mut point = moved([3, 2, 2].map(|k| k * divisor as i32), origin, divisor);
+                point[axis] = coordinate;
+                ask(&block, v, point, divisor).err().map(|refusal| refusal.number)
+            };
+            let start = i32::from(origin[axis]) * divisor as i32;
+            let (first, last) = ([2, 1, 1][axis] * divisor as i32, [4, 3, 3][axis] * divisor as i32);
+            assert_eq!([first, last].map(|c| number(start + c)), [None; 2]);
+            assert_eq!([first - 1, last + 1, -1].map(|c| number(start + c)), [Some(12); 3]);
+            assert_eq!([i32::MIN, i32::MAX].map(number), [Some(12); 2]);
+        }
+    }
 }

@@ -1,14 +1,14 @@
 //! Builds: orders, units and slice lengths.
 
-use super::shape;
+use super::{UNIT_WORDS, shape};
 use crate::calls::{build, multiplicities};
 use crate::formats::join;
 use crate::unit::{Sizes, Unit};
 
 const HEADER: &str = "\
 # Builds. Each line is a call and its result; the net of a made build is that of nets.txt.
-# build HAS-NET V1 V2 V3 V4 HAS-BLOCK N1 N2 N3 NET WORK COUNT BYTES unit HAS-NET V1 V2 V3 V4 HAS-BLOCK N1 N2 N3
-# build HAS-NET V1 V2 V3 V4 HAS-BLOCK N1 N2 N3 NET WORK COUNT BYTES refused NUMBER PLACE
+# build UNIT NET WORK COUNT BYTES unit UNIT
+# build UNIT NET WORK COUNT BYTES refused NUMBER PLACE
 #                      NET and WORK are the slices' lengths, COUNT and BYTES the order
 ";
 
@@ -59,12 +59,14 @@ fn line(unit: Unit, order: &[u8], lengths: [usize; 2]) -> String {
 }
 
 fn units() -> [Unit; 3] {
-    let full = Unit::EMPTY.with_net(shape([2, 1, 3, 1])).with_block(Sizes::new([3, 4, 5]).expect("within the limits"));
-    [Unit::EMPTY, full, Unit { has_net: true, v: [0, 255, 9, 9], has_block: true, n: [0, 65535, 65] }]
+    let sizes = Sizes::new([3, 4, 5]).expect("within the limits");
+    let full = Unit::EMPTY.with_net(shape([2, 1, 3, 1])).with_block(sizes, [-7, 0, 300]);
+    let o = [-32768, 32767, -1];
+    [Unit::EMPTY, full, Unit { has_net: true, v: [0, 255, 9, 9], has_block: true, n: [0, 65535, 65], o }]
 }
 
 pub fn text() -> String {
-    let mut text = HEADER.to_string();
+    let mut text = format!("{HEADER}{UNIT_WORDS}");
     for (number, order) in GOOD.into_iter().enumerate() {
         let places = multiplicities(order).expect("a good order").places();
         let unit = units()[number % units().len()];

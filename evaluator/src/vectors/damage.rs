@@ -57,29 +57,29 @@ fn tight(v: Multiplicities) -> Scene {
 
 /// Every point of the cell whose window is the block, at divisor 4: remainders of each order and with each tie.
 fn ask_cell(scene: &mut Scene) {
-    let corner = scene.net.extents().map(|e| (e as u32 - 1) * DIVISOR);
+    let corner = scene.first_cell();
     for index in 0..DIVISOR.pow(3) {
         let remainder = [index % DIVISOR, index / DIVISOR % DIVISOR, index / DIVISOR / DIVISOR];
-        scene.ask([0, 1, 2].map(|b| corner[b] + remainder[b]), DIVISOR);
+        scene.ask(scene.at(corner, remainder, DIVISOR), DIVISOR);
     }
 }
 
 /// The points of the same cell that are on far faces, of these axes at least.
 fn ask_far(scene: &mut Scene, axes: &[usize]) {
-    let corner = scene.net.extents().map(|e| (e as u32 - 1) * FAR_DIVISOR);
+    let corner = scene.first_cell();
     let each = || 0..=FAR_DIVISOR;
     for remainder in each().flat_map(|z| each().flat_map(move |y| each().map(move |x| [x, y, z]))) {
         if remainder.contains(&FAR_DIVISOR) && axes.iter().all(|&b| remainder[b] == FAR_DIVISOR) {
-            scene.ask([0, 1, 2].map(|b| corner[b] + remainder[b]), FAR_DIVISOR);
+            scene.ask(scene.at(corner, remainder, FAR_DIVISOR), FAR_DIVISOR);
         }
     }
 }
 
 fn ask_some(scene: &mut Scene) {
-    let corner = scene.net.extents().map(|e| (e as u32 - 1) * DIVISOR);
+    let corner = scene.first_cell();
     let near = [[0, 0, 0], [3, 3, 3], [3, 2, 1], [1, 2, 3], [2, 0, 2], [0, 1, 0]];
     for remainder in near.into_iter().chain([[4, 2, 1], [0, 4, 4], [4, 4, 4]]) {
-        scene.ask([0, 1, 2].map(|b| corner[b] + remainder[b]), DIVISOR);
+        scene.ask(scene.at(corner, remainder, DIVISOR), DIVISOR);
     }
 }
 

@@ -1,6 +1,6 @@
 //! Points on the far faces of a block and next to them: docs/SPECIFICATION.md, 9.1 and 9.2.
 
-use super::scene::{Scene, coordinates};
+use super::scene::Scene;
 use super::shape;
 use crate::field::{Block, NEVER_MEASURED};
 use crate::net::Multiplicities;
@@ -48,7 +48,7 @@ pub fn ask_each_way(scene: &mut Scene, number: usize, random: &mut Random) {
         let divisor = [random.between(1, 4) as u32, any, largest][(number + way) % 3];
         let [a, b, c] = [0; 3].map(|_: u32| random.below(divisor.into()) as u32);
         let remainder = [[0; 3], [divisor - 1; 3], [a; 3], [a, 0, b], [a, b, c]][(number + way) % 5];
-        let point = coordinates(scene.any_cell(random), remainder, divisor);
+        let point = scene.at(scene.any_cell(random), remainder, divisor);
         scene.ask(scene.moved_far(point, axes, divisor), divisor);
     }
 }
@@ -66,7 +66,7 @@ fn every_divisor() -> Scene {
 /// On one axis the far face of another, a little less and a little more; the other coordinates are inside or far too.
 fn swapped(divisor: u32) -> Scene {
     let mut scene = Scene::new(quadratic(), block([4, 3, 5], 7));
-    let inside = coordinates(scene.first_cell(), [1, 2, 1], divisor);
+    let inside = scene.at(scene.first_cell(), [1, 2, 1], divisor);
     let far = scene.moved_far(inside, WAYS[6], divisor);
     for axis in 0..3 {
         for coordinate in [far[(axis + 1) % 3], far[(axis + 2) % 3], far[axis] - 1, far[axis] + 1] {
@@ -86,7 +86,7 @@ fn short((v, divisor, missing): (Multiplicities, u32, usize), axis: usize) -> Sc
     let mut n = v.extents();
     n[axis] -= missing;
     let mut scene = Scene::new(v, block(n, 8));
-    let inside = coordinates(scene.first_cell(), [0; 3], divisor);
+    let inside = scene.at(scene.first_cell(), [0; 3], divisor);
     let far = scene.moved_far(inside, &[axis], divisor);
     let mut points = [far, far, far, inside.map(|c| c + 1), scene.moved_far(inside, WAYS[6], divisor)];
     points[1][axis] -= 1;
@@ -111,7 +111,7 @@ fn with_gaps(gaps: &[[usize; 3]]) -> Scene {
     }
     for (cell, ways) in [(scene.last_cell(), &WAYS[..]), (scene.first_cell(), &WAYS[..6])] {
         for axes in ways {
-            let point = coordinates(cell, [1, 3, 2], divisor);
+            let point = scene.at(cell, [1, 3, 2], divisor);
             scene.ask(scene.moved_far(point, axes, divisor), divisor);
         }
     }

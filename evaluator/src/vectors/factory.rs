@@ -5,7 +5,7 @@ use super::{Shelf, shape};
 use crate::calls::{factory, factory_shape};
 use crate::formats::{join, numbers_digest};
 use crate::net::Multiplicities;
-use crate::unit::{Refusal, Unit};
+use crate::unit::{Origin, Refusal, Unit};
 use std::fmt;
 
 const HEADER: &str = "\
@@ -17,7 +17,7 @@ const HEADER: &str = "\
 # factory RECORD LENGTH refused NUMBER PLACE RECORD SHA256
 #                      a call with a net slice of this length: the record handed in, the record answered, and
 #                      the digest of the whole slice afterwards, past the net too, made as those of nets.txt;
-#                      RECORD is HAS-NET V1 V2 V3 V4 HAS-BLOCK N1 N2 N3, its flags any bytes: 1 says present
+#                      RECORD is HAS-NET V1 V2 V3 V4 HAS-BLOCK N1 N2 N3 O1 O2 O3, its flags any bytes: 1 says present
 ";
 
 /// The record as C has it, with any bytes for flags: docs/SPECIFICATION.md, 12.1.
@@ -27,11 +27,13 @@ struct Record {
     v: [u8; 4],
     has_block: u8,
     n: [u16; 3],
+    o: Origin,
 }
 
 impl Record {
     fn unit(&self) -> Unit {
-        Unit { has_net: self.has_net == 1, v: self.v, has_block: self.has_block == 1, n: self.n }
+        let Record { has_net, v, has_block, n, o } = *self;
+        Unit { has_net: has_net == 1, v, has_block: has_block == 1, n, o }
     }
 
     /// The record of an answer, refused or not: every byte of the block half stays.
@@ -42,7 +44,8 @@ impl Record {
 
 impl fmt::Display for Record {
     fn fmt(&self, f: &mut fmt::Formatter) -> fmt::Result {
-        write!(f, "{} {} {} {}", self.has_net, join(self.v), self.has_block, join(self.n))
+        let Record { has_net, v, has_block, n, o } = self;
+        write!(f, "{has_net} {} {has_block} {} {}", join(v), join(n), join(o))
     }
 }
 
@@ -86,24 +89,24 @@ fn line(record: Record, length: usize, held: &Held, shelf: &Shelf) -> String {
     format!("factory {record} {length} {result} {} {}\n", record.after(&answer), numbers_digest(&numbers))
 }
 
-const fn record(has_net: u8, v: [u8; 4], has_block: u8, n: [u16; 3]) -> Record {
-    Record { has_net, v, has_block, n }
+const fn record(has_net: u8, v: [u8; 4], has_block: u8, n: [u16; 3], o: Origin) -> Record {
+    Record { has_net, v, has_block, n, o }
 }
 
 /// Nets that are none, stale, disallowed or the factory's already, present and not; blocks that are none,
-/// present, not present and out of limits; flags of other bytes than 0 and 1.
+/// present, not present and out of limits, with origins of all kinds; flags of other bytes than 0 and 1.
 const RECORDS: [Record; 11] = [
-    record(0, [0; 4], 0, [0; 3]),
-    record(1, [2, 1, 3, 1], 1, [3, 4, 5]),
-    record(1, [2, 2, 2, 1], 1, [16, 16, 16]),
-    record(0, [3, 3, 3, 3], 0, [5, 6, 7]),
-    record(0, [2, 2, 2, 1], 1, [64, 1, 64]),
-    record(1, [1, 2, 2, 2], 0, [0, 1, 65535]),
-    record(1, [0, 255, 9, 9], 1, [0, 65535, 65]),
-    record(2, [5, 5, 2, 1], 88, [64, 64, 2]),
-    record(88, [10, 1, 1, 1], 2, [8, 8, 8]),
-    record(255, [255; 4], 255, [65535; 3]),
-    record(17, [34, 51, 68, 85], 102, [30600, 39321, 48042]),
+    record(0, [0; 4], 0, [0; 3], [0; 3]),
+    record(1, [2, 1, 3, 1], 1, [3, 4, 5], [-7, 0, 300]),
+    record(1, [2, 2, 2, 1], 1, [16, 16, 16], [-8, -8, -8]),
+    record(0, [3, 3, 3, 3], 0, [5, 6, 7], [1, -1, 0]),
+    record(0, [2, 2, 2, 1], 1, [64, 1, 64], [-32768, 0, 32767]),
+    record(1, [1, 2, 2, 2], 0, [0, 1, 65535], [32767, -32768, -1]),
+    record(1, [0, 255, 9, 9], 1, [0, 65535, 65], [256, -256, 255]),
+    record(2, [5, 5, 2, 1], 88, [64, 64, 2], [0, 0, -32768]),
+    record(88, [10, 1, 1, 1], 2, [8, 8, 8], [-1, -1, -1]),
+    record(255, [255; 4], 255, [65535; 3], [-1; 3]),
+    record(17, [34, 51, 68, 85], 102, [30600, 39321, 48042], [-8773, -52, 8669]),
 ];
 
 /// Around no element, one, and the places of the net, then past them by more than a guard zone has.
@@ -160,9 +163,11 @@ mod tests {
         let shelf = &shelf();
         let defined = numbers_digest(&shelf.net(factory_shape()).numbers);
         for held in other_contents().iter().chain([&JUNK]) {
-            assert!(line(RECORDS[1], 2197, held, shelf).ends_with(&format!(" unit 1 2 2 2 1 1 3 4 5 {defined}\n")));
+            assert!(
+                line(RECORDS[1], 2197, held, shelf).ends_with(&format!(" unit 1 2 2 2 1 1 3 4 5 -7 0 300 {defined}\n"))
+            );
             let kept = numbers_digest(&held.numbers(2196, shelf));
-            let refused = format!(" refused 4 0 1 2 1 3 1 1 3 4 5 {kept}\n");
+            let refused = format!(" refused 4 0 1 2 1 3 1 1 3 4 5 -7 0 300 {kept}\n");
             assert!(line(RECORDS[1], 2196, held, shelf).ends_with(&refused));
         }
     }
@@ -171,8 +176,11 @@ mod tests {
     fn a_record_keeps_every_byte_that_is_not_set() {
         let (first, last) = (RECORDS[0], RECORDS[10]);
         let set = |record: Record| record.after(&Ok(record.unit().with_net(factory_shape()))).to_string();
-        assert_eq!(set(first), "1 2 2 2 1 0 0 0 0");
-        assert_eq!(set(last), "1 2 2 2 1 102 30600 39321 48042");
-        assert_eq!(last.after(&Err(Refusal::from(4))).to_string(), "17 34 51 68 85 102 30600 39321 48042");
+        assert_eq!(set(first), "1 2 2 2 1 0 0 0 0 0 0 0");
+        assert_eq!(set(last), "1 2 2 2 1 102 30600 39321 48042 -8773 -52 8669");
+        assert_eq!(
+            last.after(&Err(Refusal::from(4))).to_string(),
+            "17 34 51 68 85 102 30600 39321 48042 -8773 -52 8669"
+        );
     }
 }

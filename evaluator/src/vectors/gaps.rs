@@ -1,7 +1,7 @@
 //! Points over lent gaps with an uncertainty. No load lets one in (16), but a lent slice can hold it: in the window it
 //! is a gap like any other, and elsewhere it changes nothing.
 
-use super::scene::{Scene, coordinates};
+use super::scene::Scene;
 use super::{faces, shape};
 use crate::field::{Block, NEVER_MEASURED};
 use crate::live;
@@ -46,9 +46,9 @@ fn around(v: Multiplicities, uncertainties: &[u16]) -> Scene {
     let largest = live::largest_divisor(v.degree());
     let at_largest = [[largest / 2, largest / 3, largest / 5], [largest - 1; 3]].map(|remainder| (remainder, largest));
     for (remainder, divisor) in [([0; 3], 1), ([1, 2, 4], 5), ([4, 0, 4], 5)].into_iter().chain(at_largest) {
-        scene.ask(coordinates(extents, remainder, divisor), divisor);
+        scene.ask(scene.at(extents, remainder, divisor), divisor);
     }
-    let first = coordinates(scene.first_cell(), [0; 3], 5);
+    let first = scene.at(scene.first_cell(), [0; 3], 5);
     scene.ask(first, 5);
     scene.ask(scene.moved_far(first, faces::WAYS[6], 5), 5);
     scene

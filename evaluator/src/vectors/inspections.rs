@@ -1,7 +1,7 @@
 //! Inspections of defined and of damaged nets.
 
 use super::scene::slice;
-use super::{Shelf, shape};
+use super::{Shelf, UNIT_WORDS, shape};
 use crate::calls::inspect;
 use crate::formats::join;
 use crate::net::Multiplicities;
@@ -11,8 +11,8 @@ const HEADER: &str = "\
 # Inspections. Each line is a word and numbers.
 # net V1 V2 V3 V4      from here on, the lent net is the defined one of these multiplicities
 # set INDEX NUMBER     but for this number at this index
-# inspect HAS-NET V1 V2 V3 V4 HAS-BLOCK N1 N2 N3 A1 A2 A3 A4 NET WORK1 WORK2 unit HAS-NET V1 V2 V3 V4 HAS-BLOCK N1 N2 N3
-# inspect HAS-NET V1 V2 V3 V4 HAS-BLOCK N1 N2 N3 A1 A2 A3 A4 NET WORK1 WORK2 refused NUMBER PLACE
+# inspect UNIT A1 A2 A3 A4 NET WORK1 WORK2 unit UNIT
+# inspect UNIT A1 A2 A3 A4 NET WORK1 WORK2 refused NUMBER PLACE
 #                      an inspection for multiplicities A1 to A4 and the unit afterwards; NET, WORK1, WORK2 are the
 #                      slices' lengths; a net slice longer than the lent net holds 4294967295 past it
 ";
@@ -76,8 +76,9 @@ fn fitting(v: Multiplicities) -> Case {
 /// Units whose net and block are replaced or kept, also such as break the limits.
 fn units() -> [Unit; 4] {
     let sizes = Sizes::new([3, 4, 5]).expect("within the limits");
-    let full = Unit::EMPTY.with_net(shape([2, 1, 3, 1])).with_block(sizes);
-    let broken = Unit { has_net: true, v: [0, 255, 9, 9], has_block: true, n: [0, 65535, 65] };
+    let full = Unit::EMPTY.with_net(shape([2, 1, 3, 1])).with_block(sizes, [-7, 0, 300]);
+    let o = [-32768, 32767, -1];
+    let broken = Unit { has_net: true, v: [0, 255, 9, 9], has_block: true, n: [0, 65535, 65], o };
     [Unit::EMPTY, full, Unit { has_net: false, ..full }, broken]
 }
 
@@ -142,5 +143,5 @@ pub fn text(shelf: &Shelf) -> String {
     scenes.push(for_another([2, 1, 1, 1], [1, 1, 1, 1]));
     scenes.push(for_another([1, 1, 1, 1], [2, 1, 1, 1]));
     let texts = scenes.iter().map(|scene| scene.text(shelf));
-    std::iter::once(HEADER.to_string()).chain(texts).collect()
+    std::iter::once(format!("{HEADER}{UNIT_WORDS}")).chain(texts).collect()
 }

@@ -1,19 +1,22 @@
-//! Field files, good and bad.
+//! Field files, good and bad, each also as it was before 0.7.0, without an origin.
 
-use super::shape;
-use crate::field::{Block, NEVER_MEASURED, load, read};
+mod bad;
+
+use super::{UNIT_WORDS, origins, shape};
+use crate::field::{Block, NEVER_MEASURED, load, read, without_origin};
 use crate::formats::{join, number_lines};
 use crate::random::Random;
-use crate::unit::{Sizes, Unit};
+use crate::unit::{Origin, Sizes, Unit, told};
 
 const HEADER: &str = "\
 # Loads. Each line is a word and what belongs to it.
 # file                 from here on, the file is what the lines b say
 # b BYTES              bytes as pairs of hexadecimal digits
+# old                  from here on, it is that file without its bytes 6 to 11, as it was before origins
 # c NUMBERS            the corrections that a load of the file writes, in index order
 # u NUMBERS            the uncertainties that it writes
-# load HAS-NET V1 V2 V3 V4 HAS-BLOCK N1 N2 N3 C U unit HAS-NET V1 V2 V3 V4 HAS-BLOCK N1 N2 N3
-# load HAS-NET V1 V2 V3 V4 HAS-BLOCK N1 N2 N3 C U refused NUMBER PLACE
+# load UNIT C U unit UNIT
+# load UNIT C U refused NUMBER PLACE
 #                      a load of the file into slices of lengths C and U, and the unit afterwards
 ";
 
@@ -22,19 +25,25 @@ type Case = (Unit, [usize; 2]);
 
 fn scene(file: &[u8], cases: &[Case]) -> String {
     let bytes: Vec<String> = file.iter().map(|byte| format!("{byte:02x}")).collect();
-    let mut text = format!("file\n{}", number_lines("b", &bytes));
-    if let Ok(block) = read(file) {
-        text.push_str(&number_lines("c", &block.corrections));
-        text.push_str(&number_lines("u", &block.uncertainties));
-    }
-    for (unit, lengths) in cases {
-        let result = match load(unit, file, *lengths) {
-            Ok((unit, _)) => format!("unit {unit}"),
-            Err(refusal) => refusal.to_string(),
-        };
-        text.push_str(&format!("load {unit} {} {result}\n", join(lengths)));
-    }
-    text
+    format!("file\n{}{}", number_lines("b", &bytes), loads(file, cases))
+}
+
+/// What a load writes, where the file is not refused, and the loads.
+fn loads(file: &[u8], cases: &[Case]) -> String {
+    let written = read(file).map_or(String::new(), |block| {
+        number_lines("c", &block.corrections) + &number_lines("u", &block.uncertainties)
+    });
+    let line = |(unit, lengths): &Case| {
+        let loaded = load(unit, file, *lengths).map(|(unit, _)| format!("unit {unit}"));
+        format!("load {unit} {} {}\n", join(lengths), told(&loaded))
+    };
+    std::iter::once(written).chain(cases.iter().map(line)).collect()
+}
+
+/// The file, and what becomes of it without an origin.
+fn with_old(file: &[u8], cases: &[Case]) -> String {
+    let old = without_origin(file).map(|old| format!("old\n{}", loads(&old, cases)));
+    scene(file, cases) + &old.unwrap_or_default()
 }
 
 fn sizes(n: [usize; 3]) -> Sizes {
@@ -42,12 +51,13 @@ fn sizes(n: [usize; 3]) -> Sizes {
 }
 
 fn full_unit() -> Unit {
-    Unit::EMPTY.with_net(shape([2, 1, 3, 1])).with_block(sizes([3, 4, 5]))
+    Unit::EMPTY.with_net(shape([2, 1, 3, 1])).with_block(sizes([3, 4, 5]), [-7, 0, 300])
 }
 
 /// Slices that are just long enough, longer, and too short in each way.
 fn cases(n: usize) -> Vec<Case> {
-    let broken = Unit { has_net: true, v: [0, 255, 9, 9], has_block: true, n: [0, 65535, 65] };
+    let o = [-32768, 32767, -1];
+    let broken = Unit { has_net: true, v: [0, 255, 9, 9], has_block: true, n: [0, 65535, 65], o };
     let units = [Unit::EMPTY, full_unit(), broken];
     let mut cases = units.map(|unit| (unit, [n; 2])).to_vec();
     cases.extend([[n + 2, n + 1], [n - 1, n], [n, n - 1], [0, 0]].map(|lengths| (full_unit(), lengths)));
@@ -121,70 +131,33 @@ fn uncertain_gaps() -> Vec<Block> {
     blocks
 }
 
-/// Files that 5 or 6 refuses: too few bytes, and sizes out of limits, with lengths that fit and that do not. The last
-/// has gaps with an uncertainty.
-fn without_sizes() -> Vec<Vec<u8>> {
-    let mut files = vec![vec![], vec![1], vec![1, 0, 1, 0, 1], vec![0; 5]];
-    for n in
-        [[0, 1, 1], [1, 0, 1], [1, 1, 0], [65, 1, 1], [1, 65, 1], [257, 1, 1], [1, 1, 256], [64, 64, 2], [65535; 3]]
-    {
-        let header: Vec<u8> = n.into_iter().flat_map(u16::to_le_bytes).collect();
-        files.push([&header[..], &[0; 4]].concat());
-        files.push(header);
-    }
-    let header = &[65, 0, 1, 0, 1, 0][..];
-    files.push([header, &[0; 4 * 65]].concat());
-    files.push([header, &NEVER_MEASURED.to_le_bytes().repeat(65), &[5, 0].repeat(65)].concat());
-    files
+/// One of the origins, by turns.
+fn origin(number: usize) -> Origin {
+    let all = origins::origins();
+    all[number % all.len()].0
 }
 
-/// Files of a wrong length: 7, also where an uncertainty is too large, or a gap has one.
-fn of_wrong_length() -> Vec<Vec<u8>> {
-    let block = random([2, 1, 2], 16);
-    let file = block.file();
-    let large = with_uncertainties(block.clone(), &[(0, 65535)]).file();
-    let uncertain_gap = with_gaps(block, &[(0, 5)]).file();
-    let shorter = |file: &[u8], by: usize| file[..file.len() - by].to_vec();
-    let longer = |file: &[u8], tail: &[u8]| [file, tail].concat();
-    vec![
-        file[..6].to_vec(),
-        file[..7].to_vec(),
-        shorter(&file, 1),
-        shorter(&file, 4),
-        longer(&file, b"\n"),
-        longer(&file, &[0; 4]),
-        longer(&large, b"\n"),
-        shorter(&uncertain_gap, 1),
-        longer(&uncertain_gap, b"\n"),
-    ]
+/// Blocks that are loaded, and such as 16 refuses, from each of the origins.
+fn blocks() -> Vec<Block> {
+    let blocks = [good(), uncertain_gaps()].concat();
+    blocks.into_iter().enumerate().map(|(number, block)| block.moved_to(origin(number))).collect()
 }
 
-/// Uncertainties above 32767 in the first, a middle, the last and two entries, and in a gap; then after, before and
-/// between gaps with an uncertainty that is not too large.
-fn of_large_uncertainty() -> Vec<Vec<u8>> {
-    let with = |uncertainties: &[(usize, u16)], gaps: &[(usize, u16)]| {
-        with_gaps(with_uncertainties(random([2, 3, 1], 17), uncertainties), gaps).file()
-    };
-    vec![
-        with(&[(0, 32768)], &[]),
-        with(&[(2, 65535)], &[]),
-        with(&[(5, 32768)], &[]),
-        with(&[(4, 32768), (1, 50000)], &[]),
-        with(&[], &[(3, 40000)]),
-        with(&[(4, 40000)], &[(1, 5)]),
-        with(&[(1, 40000)], &[(4, 5)]),
-        with(&[], &[(0, 5), (3, 40000), (5, 1)]),
-    ]
+/// An entry without an uncertainty from each of the origins; those with -32768 have bytes there that would be a gap's.
+fn singles() -> Vec<Block> {
+    origins::origins().into_iter().map(|(origin, _)| Block::constant(sizes([1, 1, 1]), 7, 0).moved_to(origin)).collect()
 }
 
 pub fn text() -> String {
-    let mut text = HEADER.to_string();
-    for block in good().iter().chain(&uncertain_gaps()) {
-        text.push_str(&scene(&block.file(), &cases(block.sizes.entries())));
+    let mut text = format!("{HEADER}{UNIT_WORDS}");
+    for block in blocks() {
+        text.push_str(&with_old(&block.file(), &cases(block.sizes.entries())));
     }
-    let bad = [without_sizes(), of_wrong_length(), of_large_uncertainty()].concat();
-    for file in bad {
-        text.push_str(&scene(&file, &[(full_unit(), [4096; 2]), (Unit::EMPTY, [0, 0])]));
+    for block in singles() {
+        text.push_str(&scene(&block.file(), &[(full_unit(), [1; 2])]));
+    }
+    for file in bad::files() {
+        text.push_str(&with_old(&file, &[(full_unit(), [4096; 2]), (Unit::EMPTY, [0, 0])]));
     }
     text
 }
@@ -201,10 +174,19 @@ mod tests {
 
     #[test]
     fn files_are_refused_as_their_lists_say() {
-        assert_eq!(numbers(good().iter().map(Block::file)), BTreeSet::from([0]));
+        assert_eq!(numbers(good().iter().chain(&singles()).map(Block::file)), BTreeSet::from([0]));
         assert_eq!(numbers(uncertain_gaps().iter().map(Block::file)), BTreeSet::from([16]));
-        assert_eq!(numbers(without_sizes()), BTreeSet::from([5, 6]));
-        assert_eq!(numbers(of_wrong_length()), BTreeSet::from([7]));
-        assert_eq!(numbers(of_large_uncertainty()), BTreeSet::from([8]));
+        assert_eq!(numbers(bad::too_short()), BTreeSet::from([5]));
+        assert_eq!(numbers(bad::without_sizes()), BTreeSet::from([6]));
+        assert_eq!(numbers(bad::of_wrong_length()), BTreeSet::from([7]));
+        assert_eq!(numbers(bad::of_large_uncertainty()), BTreeSet::from([8]));
+    }
+
+    #[test]
+    fn without_its_origin_no_file_is_loaded() {
+        let old = |files: Vec<Vec<u8>>| numbers(files.iter().filter_map(|file| without_origin(file)));
+        assert_eq!(old(blocks().iter().map(Block::file).collect()), BTreeSet::from([5, 7]));
+        assert_eq!(old(bad::of_large_uncertainty()), BTreeSet::from([7]));
+        assert_eq!(old(bad::without_sizes()), BTreeSet::from([5, 6]));
     }
 }

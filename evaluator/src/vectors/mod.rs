@@ -8,6 +8,7 @@ mod gaps;
 mod inspections;
 mod live;
 mod loads;
+mod origins;
 mod placings;
 mod points;
 mod refusals;
@@ -21,6 +22,11 @@ use scene::Scene;
 use std::collections::{BTreeSet, HashMap};
 use std::fs;
 use std::path::Path;
+
+/// What a unit is in the lines of a file.
+const UNIT_WORDS: &str = "\
+#                      UNIT is HAS-NET V1 V2 V3 V4 HAS-BLOCK N1 N2 N3 O1 O2 O3
+";
 
 /// A file of stored vectors.
 struct Vectors {
@@ -66,10 +72,11 @@ fn all_nets(wanted: &BTreeSet<Multiplicities>) -> (String, Shelf) {
 fn make() -> Vec<Vectors> {
     let of_points = [points::shapes(), faces::shapes(), refusals::shapes(), damage::shapes(), gaps::shapes()].concat();
     let of_nets = [inspections::shapes(), whole::shapes(), factory::shapes()].concat();
-    let wanted = [of_points, live::shapes(), placings::shapes(), of_nets].concat();
+    let wanted = [of_points, origins::shapes(), live::shapes(), placings::shapes(), of_nets].concat();
     let (digests, shelf) = all_nets(&wanted.into_iter().collect());
     let scenes = [points::scenes(), faces::scenes(), refusals::scenes(&shelf), damage::scenes(&shelf), gaps::scenes()];
-    let scenes: Vec<Scene> = scenes.into_iter().flatten().collect();
+    let moved = [vec![origins::scene()], refusals::moved::scenes(&shelf)];
+    let scenes: Vec<Scene> = scenes.into_iter().chain(moved).flatten().collect();
     vec![
         Vectors { name: "nets.txt", text: digests },
         Vectors { name: "whole-nets.txt", text: whole::nets(&shelf) },

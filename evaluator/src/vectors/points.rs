@@ -1,7 +1,7 @@
 //! Points over defined nets of every degree: the figures worked by hand, any points, and the largest numbers.
 
-use super::scene::{Case, Scene, coordinates, header};
-use super::{Shelf, faces, shape};
+use super::scene::{Case, Scene, header};
+use super::{Shelf, faces, origins, shape};
 use crate::field::{Block, NEVER_MEASURED};
 use crate::net::Multiplicities;
 use crate::point::largest_divisor;
@@ -9,8 +9,8 @@ use crate::random::Random;
 use crate::unit::{Sizes, told};
 
 const FORMS: &str = "\
-# point HAS-NET V1 V2 V3 V4 HAS-BLOCK N1 N2 N3 NET C U X Y Z D answer N U DENOMINATOR
-# point HAS-NET V1 V2 V3 V4 HAS-BLOCK N1 N2 N3 NET C U X Y Z D refused NUMBER PLACE
+# point UNIT NET C U X Y Z D answer N U DENOMINATOR
+# point UNIT NET C U X Y Z D refused NUMBER PLACE
 ";
 
 const NETS_OF_A_DEGREE: usize = 6;
@@ -43,11 +43,12 @@ pub fn text(scenes: &[Scene], shelf: &Shelf) -> String {
 }
 
 pub fn scenes() -> Vec<Scene> {
-    let (mut random, mut random_far) = (Random::new(1), Random::new(4));
+    let (mut random, mut random_far, mut random_moved) = (Random::new(1), Random::new(4), Random::new(22));
     let mut scenes = figures();
     for (number, v) in spread().into_iter().enumerate() {
         let mut scene = any_scene(v, number, &mut random);
         faces::ask_each_way(&mut scene, number, &mut random_far);
+        origins::ask_moved(&mut scene, number, &mut random_moved);
         scenes.push(scene);
     }
     scenes.extend(large().into_iter().flat_map(|v| large_scenes(v, &mut random)));
@@ -96,9 +97,9 @@ fn any_scene(v: Multiplicities, number: usize, random: &mut Random) -> Scene {
 /// The extreme vertices, and points with each kind of equal remainders at small, middle and largest divisors.
 fn ask_inside(scene: &mut Scene, random: &mut Random) {
     let largest = largest_divisor(scene.net.degree());
-    scene.ask(scene.net.extents().map(|e| e as u32 - 1), 1);
-    scene.ask(scene.block.sizes.axes().map(|n| n as u32 - 1), 1);
-    scene.ask(coordinates(scene.last_cell(), [largest - 1; 3], largest), largest);
+    scene.ask(scene.at(scene.first_cell(), [0; 3], 1), 1);
+    scene.ask(scene.at(scene.last_cell(), [0; 3], 1), 1);
+    scene.ask(scene.at(scene.last_cell(), [largest - 1; 3], largest), largest);
     for kind in 0..8 {
         let divisor = if kind < 2 { largest } else { random.between(2, largest as usize) as u32 };
         let [a, b, c] = [0; 3].map(|_: u32| random.below(divisor.into()) as u32);
@@ -111,20 +112,19 @@ fn ask_inside(scene: &mut Scene, random: &mut Random) {
             _ => [a, b, c],
         };
         let cell = scene.any_cell(random);
-        scene.ask(coordinates(cell, remainder, divisor), divisor);
+        scene.ask(scene.at(cell, remainder, divisor), divisor);
     }
 }
 
-/// Just below the low end of an axis, on its far face and just past it, far outside, and a divisor just too large.
+/// Just below the low end of an axis, on its far face and just past it, at both ends of what a coordinate can be, and a
+/// divisor just too large.
 fn ask_ends(scene: &mut Scene) {
     let largest = largest_divisor(scene.net.degree());
     let axis = scene.net.extents().iter().sum::<usize>() % 3;
-    let inside = coordinates(scene.first_cell(), [0; 3], largest);
+    let inside = scene.at(scene.first_cell(), [0; 3], largest);
     let far = scene.moved_far(inside, &[axis], largest);
-    let (mut below, mut past) = (inside, far);
-    below[axis] -= 1;
-    past[axis] += 1;
-    for point in [below, far, past, [u32::MAX; 3]] {
+    let with = |coordinate: i32| [0, 1, 2].map(|b| if b == axis { coordinate } else { inside[b] });
+    for point in [inside[axis] - 1, far[axis], far[axis] + 1, i32::MAX, i32::MIN].map(with) {
         scene.ask(point, largest);
     }
     scene.ask(inside, largest + 1);
@@ -139,7 +139,7 @@ fn large_scenes(v: Multiplicities, random: &mut Random) -> Vec<Scene> {
         let mut scene = Scene::new(v, Block::constant(sizes, correction, uncertainty));
         let remainders = [[0; 3], [largest - 1; 3], [largest / 2, largest / 3, largest / 5]];
         for (remainder, axes) in remainders.into_iter().zip([&[0, 1, 2][..], &[1, 2], &[0]]) {
-            let point = coordinates(scene.any_cell(random), remainder, largest);
+            let point = scene.at(scene.any_cell(random), remainder, largest);
             scene.ask(point, largest);
             scene.ask(scene.moved_far(point, axes, largest), largest);
         }

@@ -1,6 +1,8 @@
 //! Each refusal of the point call alone and together with each other one, which shows the order of the checks; and on a
 //! far face, where it is alone or with what is found in the window. The live call has fewer cases of a pair.
 
+pub mod moved;
+
 use super::scene::{Case, Scene};
 use super::{Shelf, shape};
 use crate::field::{Block, NEVER_MEASURED};
@@ -44,17 +46,16 @@ pub fn pairs(checks: &[u8], has_gap: bool, is_damaged: bool) -> Vec<[u8; 2]> {
 }
 
 /// The point that a call asks, by its divisor.
-type PointAt = fn(u32) -> [u32; 3];
+type PointAt = fn(&Scene, u32) -> [i32; 3];
 
 /// The lowest point inside.
-pub fn inside(divisor: u32) -> [u32; 3] {
-    net().extents().map(|e| (e as u32 - 1).saturating_mul(divisor))
+pub fn inside(scene: &Scene, divisor: u32) -> [i32; 3] {
+    scene.at(scene.first_cell(), [0; 3], divisor)
 }
 
 /// The same on the far face of axis 3.
-fn far(divisor: u32) -> [u32; 3] {
-    let [x, y, _] = inside(divisor);
-    [x, y, (SIZES[2] as u32).saturating_mul(divisor)]
+fn far(scene: &Scene, divisor: u32) -> [i32; 3] {
+    scene.moved_far(inside(scene, divisor), &[2], divisor)
 }
 
 /// A scene without cases.
@@ -85,12 +86,13 @@ fn scene(has_gap: bool, is_damaged: bool, shelf: &Shelf) -> Scene {
         scene.cases.extend(cases);
     }
     if is_sound {
-        scene.ask(far(DIVISOR), DIVISOR);
+        scene.ask(far(&scene, DIVISOR), DIVISOR);
     }
     scene
 }
 
-/// A check alone has all its cases, one with another the first of them.
+/// A check alone has all its cases, one with another the first of them. Over a sound net and block two points more
+/// without a divisor, before the origin and at it.
 fn live_scene(has_gap: bool, is_damaged: bool, shelf: &Shelf) -> Scene {
     let mut scene = setting(has_gap, is_damaged);
     let lent_numbers = scene.lent_numbers(shelf);
@@ -104,6 +106,10 @@ fn live_scene(has_gap: bool, is_damaged: bool, shelf: &Shelf) -> Scene {
         }
         scene.cases.extend(cases);
     }
+    if !has_gap && !is_damaged {
+        scene.ask([-1; 3], 0);
+        scene.ask([0; 3], 0);
+    }
     scene
 }
 
@@ -114,32 +120,33 @@ pub fn assert_refused<T: Debug>(pair: [u8; 2], answer: Result<T, Refusal>) {
 
 /// The call that would be answered but for the scene's gap and damage, with the faults of the pair.
 pub fn cases(scene: &Scene, pair: [u8; 2], point_at: PointAt) -> Vec<Case> {
-    let sound = scene.case(point_at(DIVISOR), DIVISOR);
-    let first: Vec<Case> = with_fault(sound, pair[0], point_at);
+    let sound = scene.case(point_at(scene, DIVISOR), DIVISOR);
+    let first: Vec<Case> = with_fault(scene, sound, pair[0], point_at);
     if pair[0] == pair[1] {
         return first;
     }
-    first.into_iter().flat_map(|case| with_fault(case, pair[1], point_at)).collect()
+    first.into_iter().flat_map(|case| with_fault(scene, case, pair[1], point_at)).collect()
 }
 
-fn with_fault(case: Case, number: u8, point_at: PointAt) -> Vec<Case> {
+fn with_fault(scene: &Scene, case: Case, number: u8, point_at: PointAt) -> Vec<Case> {
     let Case { unit, lengths, .. } = case;
     let with_units = |units: Vec<Unit>| units.into_iter().map(|unit| Case { unit, ..case }).collect();
     let with_lengths = |all: Vec<[usize; 3]>| all.into_iter().map(|lengths| Case { lengths, ..case }).collect();
     let (largest, live_largest) = (largest_divisor(net().degree()), live::largest_divisor(net().degree()));
+    let with_divisors = |divisors: &[u32]| with_divisors(case, divisors, |divisor| point_at(scene, divisor));
     let meets_10 = case.divisor == 0 || case.divisor > LARGEST_DIVISOR;
     match number {
         21 => with_units(units_without_net(unit)),
         22 => with_units(units_without_block(unit)),
         4 => with_lengths(vec![[net().places() - 1, lengths[1], lengths[2]], [0, lengths[1], lengths[2]]]),
         9 => with_lengths(vec![[lengths[0], lengths[1] - 1, lengths[2]], [lengths[0], lengths[1], lengths[2] - 1]]),
-        10 => with_divisors(case, &[0, LARGEST_DIVISOR + 1, u32::MAX], point_at),
+        10 => with_divisors(&[0, LARGEST_DIVISOR + 1, u32::MAX]),
         // Where an earlier check of it applies too, the divisor stays.
         11 if meets_10 => vec![case],
         15 if meets_10 || case.divisor > largest => vec![case],
-        15 => with_divisors(case, &[live_largest + 1, largest], point_at),
-        11 => with_divisors(case, &[largest + 1, LARGEST_DIVISOR], point_at),
-        12 => outside(case),
+        15 => with_divisors(&[live_largest + 1, largest]),
+        11 => with_divisors(&[largest + 1, LARGEST_DIVISOR]),
+        12 => outside(scene, case),
         _ => vec![case],
     }
 }
@@ -157,17 +164,18 @@ fn units_without_block(unit: Unit) -> Vec<Unit> {
 }
 
 /// The same cell at other divisors.
-fn with_divisors(case: Case, divisors: &[u32], point_at: PointAt) -> Vec<Case> {
+fn with_divisors(case: Case, divisors: &[u32], point_at: impl Fn(u32) -> [i32; 3]) -> Vec<Case> {
     divisors.iter().map(|&divisor| Case { coordinates: point_at(divisor), divisor, ..case }).collect()
 }
 
-/// Outside by one on the low side of an axis, and on the high side of another.
-fn outside(case: Case) -> Vec<Case> {
-    let moved = |axis: usize, coordinate: u32| {
+/// Outside by one on the low side of an axis, on the high side of another, and before the origin on the third.
+fn outside(scene: &Scene, case: Case) -> Vec<Case> {
+    let moved = |axis: usize, coordinate: i32| {
         let mut coordinates = case.coordinates;
         coordinates[axis] = coordinate;
         Case { coordinates, ..case }
     };
-    let past = u32::from(case.unit.n[1]).saturating_mul(case.divisor).saturating_add(1);
-    vec![moved(0, case.coordinates[0].saturating_sub(1)), moved(1, past)]
+    let past = scene.at(case.unit.n.map(usize::from), [1; 3], case.divisor)[1];
+    let before = scene.at([0; 3], [0; 3], case.divisor)[2].saturating_sub(1);
+    vec![moved(0, case.coordinates[0].saturating_sub(1)), moved(1, past), moved(2, before)]
 }

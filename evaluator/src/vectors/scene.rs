@@ -1,11 +1,11 @@
 //! Point calls that share a lent net and a lent block, and their text.
 
-use super::Shelf;
+use super::{Shelf, UNIT_WORDS};
 use crate::field::Block;
 use crate::formats::{join, number_lines};
 use crate::lent;
 use crate::net::Multiplicities;
-use crate::point::{self, Call, Exact};
+use crate::point::{self, Call, Exact, coordinate};
 use crate::random::Random;
 use crate::unit::Unit;
 use std::fmt;
@@ -25,7 +25,7 @@ const CALL_WORDS: &str = "\
 
 /// The top of a file of such calls: the forms of their lines, and what is to be said of these alone.
 pub fn header(title: &str, forms: &str, own_words: &str) -> String {
-    format!("# {title}. Each line is a word and numbers.\n{LENT_WORDS}{forms}{CALL_WORDS}{own_words}")
+    format!("# {title}. Each line is a word and numbers.\n{LENT_WORDS}{forms}{UNIT_WORDS}{CALL_WORDS}{own_words}")
 }
 
 /// The slice of this length that begins with the lent numbers; what no call may read is filled in past them.
@@ -35,18 +35,13 @@ pub fn slice(numbers: &[u32], length: usize) -> Vec<u32> {
     slice
 }
 
-/// A coordinate for each axis from cell and remainder.
-pub fn coordinates(cell: [usize; 3], remainder: [u32; 3], divisor: u32) -> [u32; 3] {
-    [0, 1, 2].map(|b| cell[b] as u32 * divisor + remainder[b])
-}
-
 /// One call, apart from the numbers lent to it.
 #[derive(Clone, Copy)]
 pub struct Case {
     pub unit: Unit,
     /// The lengths of net, corrections and uncertainties.
     pub lengths: [usize; 3],
-    pub coordinates: [u32; 3],
+    pub coordinates: [i32; 3],
     pub divisor: u32,
 }
 
@@ -70,13 +65,13 @@ impl Scene {
     }
 
     /// A unit that holds the scene's net and block, and slices as long as these.
-    pub fn case(&self, coordinates: [u32; 3], divisor: u32) -> Case {
-        let unit = Unit::EMPTY.with_net(self.net).with_block(self.block.sizes);
+    pub fn case(&self, coordinates: [i32; 3], divisor: u32) -> Case {
+        let unit = Unit::EMPTY.with_net(self.net).with_block(self.block.sizes, self.block.origin);
         let lengths = [self.net.places(), self.block.corrections.len(), self.block.uncertainties.len()];
         Case { unit, lengths, coordinates, divisor }
     }
 
-    pub fn ask(&mut self, coordinates: [u32; 3], divisor: u32) {
+    pub fn ask(&mut self, coordinates: [i32; 3], divisor: u32) {
         self.cases.push(self.case(coordinates, divisor));
     }
 
@@ -94,10 +89,16 @@ impl Scene {
         [0, 1, 2].map(|b| random.between(first[b], last[b]))
     }
 
+    /// A coordinate for each axis from cell and remainder.
+    pub fn at(&self, cell: [usize; 3], remainder: [u32; 3], divisor: u32) -> [i32; 3] {
+        [0, 1, 2].map(|b| coordinate(self.block.origin[b], cell[b], remainder[b].into(), divisor))
+    }
+
     /// The point moved to the far faces of these axes.
-    pub fn moved_far(&self, mut point: [u32; 3], axes: &[usize], divisor: u32) -> [u32; 3] {
+    pub fn moved_far(&self, mut point: [i32; 3], axes: &[usize], divisor: u32) -> [i32; 3] {
+        let far = self.at(self.block.sizes.axes(), [0; 3], divisor);
         for &b in axes {
-            point[b] = self.block.sizes.axes()[b] as u32 * divisor;
+            point[b] = far[b];
         }
         point
     }

@@ -5,7 +5,7 @@ use evaluator::field::Block;
 use evaluator::live::Floats;
 use evaluator::placing::Placing;
 use evaluator::point::Fraction;
-use evaluator::unit::{Refusal, Unit};
+use evaluator::unit::{Origin, Refusal, Unit};
 use std::fmt;
 
 pub type Changed = Result<Unit, Refusal>;
@@ -23,16 +23,16 @@ pub struct Handed {
 
 impl Handed {
     /// Of any bytes for flags.
-    pub fn of([has_net, has_block]: [u8; 2], v: [u8; 4], n: [u16; 3]) -> Handed {
-        let unit = Unit { has_net: has_net == 1, v, has_block: has_block == 1, n };
+    pub fn of([has_net, has_block]: [u8; 2], v: [u8; 4], n: [u16; 3], o: Origin) -> Handed {
+        let unit = Unit { has_net: has_net == 1, v, has_block: has_block == 1, n, o };
         Handed { unit, absent: [has_net, has_block] }
     }
 
     pub fn record(&self) -> Record {
-        let Unit { has_net, v: [v1, v2, v3, v4], has_block, n: [n1, n2, n3] } = self.unit;
+        let Unit { has_net, v: [v1, v2, v3, v4], has_block, n: [n1, n2, n3], o: [o1, o2, o3] } = self.unit;
         let flag = |set: bool, absent: u8| if set { 1 } else { absent };
         let (has_net, has_block) = (flag(has_net, self.absent[0]), flag(has_block, self.absent[1]));
-        Record { has_net, v1, v2, v3, v4, has_block, n1, n2, n3 }
+        Record { has_net, v1, v2, v3, v4, has_block, n1, n2, n3, o1, o2, o3 }
     }
 
     /// What a call that sets the net half must answer: all bytes of the block half are as handed in.
@@ -63,8 +63,8 @@ impl From<Unit> for Handed {
 
 impl fmt::Display for Handed {
     fn fmt(&self, f: &mut fmt::Formatter) -> fmt::Result {
-        let Record { has_net, v1, v2, v3, v4, has_block, n1, n2, n3 } = self.record();
-        write!(f, "{has_net} {v1} {v2} {v3} {v4} {has_block} {n1} {n2} {n3}")
+        let Record { has_net, v1, v2, v3, v4, has_block, n1, n2, n3, o1, o2, o3 } = self.record();
+        write!(f, "{has_net} {v1} {v2} {v3} {v4} {has_block} {n1} {n2} {n3} {o1} {o2} {o3}")
     }
 }
 

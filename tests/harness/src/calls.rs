@@ -154,7 +154,7 @@ impl Load<'_> {
 
 pub struct Point<'a> {
     pub loan: Loan<'a>,
-    pub coordinates: [u32; 3],
+    pub coordinates: [i32; 3],
     pub divisor: u32,
 }
 

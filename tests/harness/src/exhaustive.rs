@@ -13,17 +13,18 @@ use evaluator::net::{Multiplicities, Net};
 use evaluator::placing::Placing;
 use evaluator::point::Call;
 use evaluator::random::Random;
-use evaluator::unit::{Refusal, Sizes, Unit};
+use evaluator::unit::{Origin, Refusal, Sizes, Unit};
 use evaluator::{lent, live};
 use std::collections::HashMap;
 use std::fmt;
 
-/// Multiplicities, sizes, and the greatest weight. Of degree 9 the largest divisors are 9, and 4 in a live call.
-const CASES: [([usize; 4], [usize; 3], u32); 4] = [
-    ([1, 1, 1, 1], [3, 2, 3], 4),
-    ([2, 1, 1, 1], [3, 3, 2], 3),
-    ([1, 2, 1, 1], [2, 3, 3], 2),
-    ([9, 1, 1, 1], [10, 2, 2], 3),
+/// Multiplicities, sizes, origin, and the greatest weight. Of degree 9 the largest divisors are 9, and 4 in a live
+/// call.
+const CASES: [([usize; 4], [usize; 3], Origin, u32); 4] = [
+    ([1, 1, 1, 1], [3, 2, 3], [0, 0, 0], 4),
+    ([2, 1, 1, 1], [3, 3, 2], [-1, -2, 32767], 3),
+    ([1, 2, 1, 1], [2, 3, 3], [-32768, 1, 0], 2),
+    ([9, 1, 1, 1], [10, 2, 2], [-5, -1, 7], 3),
 ];
 
 /// The greatest number for an axis; there are three.
@@ -59,20 +60,22 @@ fn lists<const N: usize>(greatest: [u32; N]) -> impl Iterator<Item = [u32; N]> {
 
 impl<'a> Small<'a> {
     fn all(shelf: &'a Shelf) -> Vec<Small<'a>> {
-        let small = |(v, n, weight)| {
+        let small = |(v, n, origin, weight)| {
             let (v, sizes) = (Multiplicities::new(v).expect("a net"), Sizes::new(n).expect("sizes"));
             let block = Block::random(sizes, &mut Random::new(17));
-            Small { unit: Unit::EMPTY.with_net(v).with_block(sizes), net: shelf.net(v), block, weight }
+            Small { unit: Unit::EMPTY.with_net(v).with_block(sizes, origin), net: shelf.net(v), block, weight }
         };
         CASES.into_iter().map(small).collect()
     }
 
-    /// Each point up to two past the far faces, over each divisor.
+    /// Each point from two before the origin to two past the far faces, over each divisor.
     fn points(&self) -> impl Iterator<Item = Place> {
-        let (unit, n) = (Handed::from(self.unit), self.unit.n.map(u32::from));
+        let (unit, n, o) = (Handed::from(self.unit), self.unit.n.map(u32::from), self.unit.o.map(i32::from));
         (0..=4 * self.weight).flat_map(move |divisor| {
-            let all = lists(n.map(|n| n * divisor + 2));
-            all.map(move |coordinates| Place { unit, coordinates, divisor })
+            let first = o.map(|o| o * divisor as i32 - 2);
+            let all = lists(n.map(|n| n * divisor + 4));
+            let coordinates = move |steps: [u32; 3]| [0, 1, 2].map(|b| first[b] + steps[b] as i32);
+            all.map(move |steps| Place { unit, coordinates: coordinates(steps), divisor })
         })
     }
 

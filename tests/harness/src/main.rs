@@ -83,6 +83,8 @@ fn placings(mut seed: u64, shelf: &Shelf, report: &mut Report) -> Outcome {
         let title = format!("points, {} in two calls", kind.name);
         group(kind, &title, &mut |seed, tally| points::in_two_calls(of, asked, seed, 6000, shelf, tally))?;
     }
+    let title = "placing calls beside blocks at the origin 0";
+    group(PLACE, title, &mut |seed, tally| points::placed_moved(seed, 6000, shelf, tally))?;
     group(VALUE, "placings", &mut |seed, tally| points::valued(Asked::Exact, seed, 6000, shelf, tally))?;
     group(LIVE_VALUE, "live placings", &mut |seed, tally| points::valued(Asked::Live, seed, 6000, shelf, tally))
 }
@@ -113,6 +115,7 @@ fn random_points(asked: Asked, seed: u64, shelf: &Shelf, report: &mut Report) ->
     group(" by recurrence", 3, &mut |seed, tally| points::by_recurrence(asked, seed, 1500, shelf, tally))?;
     group(" at the same time", 4, &mut |seed, tally| threads::run(asked, seed, shelf, tally))?;
     group(" over gaps", 5, &mut |seed, tally| points::over_gaps(asked, seed, 1000, shelf, tally))?;
+    group(" beside blocks at the origin 0", 6, &mut |seed, tally| points::moved(asked, seed, 6000, shelf, tally))?;
     spread.finish()
 }
 
@@ -151,10 +154,10 @@ fn run() -> Outcome {
     let shelf = stored_vectors(&mut report)?;
     random_calls(&shelf, &mut report)?;
     random_points(Asked::Exact, 4, &shelf, &mut report)?;
-    random_points(Asked::Live, 9, &shelf, &mut report)?;
-    factory_calls(14, &shelf, &mut report)?;
+    random_points(Asked::Live, 10, &shelf, &mut report)?;
+    factory_calls(16, &shelf, &mut report)?;
     stored_placings(&shelf, &mut report)?;
-    placings(21, &shelf, &mut report)?;
+    placings(23, &shelf, &mut report)?;
     report.finish()
 }
 

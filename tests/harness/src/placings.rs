@@ -17,7 +17,7 @@ const AFTER_15: [u32; 5] = [0, 4, 9, 13, 23];
 
 pub struct Place {
     pub unit: Handed,
-    pub coordinates: [u32; 3],
+    pub coordinates: [i32; 3],
     pub divisor: u32,
 }
 

@@ -11,7 +11,7 @@ use evaluator::field::Block;
 use evaluator::net::Multiplicities;
 use evaluator::point::Call;
 use evaluator::random::Random;
-use evaluator::unit::{Sizes, Unit};
+use evaluator::unit::{Origin, Sizes, Unit};
 use evaluator::{lent, live};
 use std::thread;
 
@@ -19,6 +19,7 @@ const THREADS: usize = 4;
 const POINTS: usize = 500;
 const SIZE: usize = 16;
 const DIVISOR: u32 = 64;
+const ORIGIN: Origin = [-8, 0, 300];
 
 /// What all threads share, and the exact answer of each point.
 struct Scene<'a> {
@@ -26,7 +27,7 @@ struct Scene<'a> {
     v: [u8; 4],
     net: &'a [u32],
     block: Block,
-    points: Vec<([u32; 3], Answered)>,
+    points: Vec<([i32; 3], Answered)>,
 }
 
 impl Scene<'_> {
@@ -35,21 +36,22 @@ impl Scene<'_> {
         let (net, sizes) = (&shelf.net(v).numbers[..], Sizes::new([SIZE; 3]).expect("sizes"));
         let random = &mut Random::new(seed);
         let block = Block::random(sizes, random);
-        let unit = Unit::EMPTY.with_net(v).with_block(sizes);
+        let unit = Unit::EMPTY.with_net(v).with_block(sizes, ORIGIN);
         let mut scene = Scene { unit, v: v.counts().map(|v| v as u8), net, block, points: Vec::new() };
         for _ in 0..POINTS {
-            let point = [0; 3].map(|_: u32| random.below(SIZE as u64 * u64::from(DIVISOR)) as u32);
+            let point =
+                ORIGIN.map(|o| i32::from(o) * DIVISOR as i32 + random.between(0, SIZE * DIVISOR as usize) as i32);
             scene.points.push((point, lent::answer(&scene.call(point), net)));
         }
         scene
     }
 
-    fn call(&self, coordinates: [u32; 3]) -> Call<'_> {
+    fn call(&self, coordinates: [i32; 3]) -> Call<'_> {
         let Scene { unit, net, block: Block { corrections, uncertainties, .. }, .. } = self;
         Call { unit: *unit, net_length: net.len(), corrections, uncertainties, coordinates, divisor: DIVISOR }
     }
 
-    fn ask_point(&self, asked: Asked, point: [u32; 3], exact: &Answered) -> Outcome {
+    fn ask_point(&self, asked: Asked, point: [i32; 3], exact: &Answered) -> Outcome {
         let (unit, net) = (Handed::from(self.unit).record(), self.net);
         let Block { corrections, uncertainties, .. } = &self.block;
         match asked {

@@ -4,7 +4,7 @@ use super::Sums;
 use super::place::{Placing, denominator, place};
 use super::possible::possible;
 use super::window::Window;
-use crate::hand::shape::{Shape, block_sizes};
+use crate::hand::shape::{Entries, Shape, block_entries};
 use crate::hand::{Refusal, refuse, refuse_at};
 use crate::torskavel::{self, Unit};
 
@@ -15,7 +15,7 @@ pub struct Call<'a> {
     pub net: &'a [u32],
     pub corrections: &'a [i16],
     pub uncertainties: &'a [u16],
-    pub coordinates: [u32; 3],
+    pub coordinates: [i32; 3],
     pub divisor: u32,
 }
 
@@ -38,13 +38,14 @@ impl<'a> Checked<'a> for Call<'a> {
     /// Checks 21, 22, 4, 9, 10, 11, 15, 12, 13.
     fn checked<S: Sums>(&self) -> Result<(Window<'a>, Placing), Refusal> {
         let &Call { unit, net, corrections, uncertainties, coordinates, divisor } = self;
-        let (shape, sizes) = held(&unit)?;
+        let (shape, block) = held(&unit)?;
+        let sizes = block.sizes;
         room(&shape, sizes, net, corrections, uncertainties)?;
         let denominator = denominator(&shape, divisor)?;
         if denominator > S::LARGEST_DENOMINATOR {
             return refuse(15);
         }
-        let placing = place(&shape, sizes, coordinates, divisor, denominator)?;
+        let placing = place(&shape, &block, coordinates, divisor, denominator)?;
         measured(Window { shape, sizes, cell: placing.cell, net, corrections, uncertainties }, placing)
     }
 }
@@ -53,7 +54,7 @@ impl<'a> Checked<'a> for Valuing<'a> {
     /// Checks 21, 22, 17, 15, 4, 9, 13.
     fn checked<S: Sums>(&self) -> Result<(Window<'a>, Placing), Refusal> {
         let &Valuing { unit, net, corrections, uncertainties, placing } = self;
-        let (shape, sizes) = held(&unit)?;
+        let (shape, Entries { sizes, .. }) = held(&unit)?;
         let placing = possible(&shape, sizes, placing)?;
         if placing.denominator > S::LARGEST_DENOMINATOR {
             return refuse(15);
@@ -64,17 +65,17 @@ impl<'a> Checked<'a> for Valuing<'a> {
 }
 
 /// A placing call, with the checks 21, 22, 10, 11, 12.
-pub fn placed(unit: Unit, coordinates: [u32; 3], divisor: u32) -> Result<torskavel::Placing, Refusal> {
-    let (shape, sizes) = held(&unit)?;
+pub fn placed(unit: Unit, coordinates: [i32; 3], divisor: u32) -> Result<torskavel::Placing, Refusal> {
+    let (shape, block) = held(&unit)?;
     let denominator = denominator(&shape, divisor)?;
-    place(&shape, sizes, coordinates, divisor, denominator).map(Placing::into)
+    place(&shape, &block, coordinates, divisor, denominator).map(Placing::into)
 }
 
 /// Checks 21 and 22: what the unit has.
-fn held(unit: &Unit) -> Result<(Shape, [usize; 3]), Refusal> {
+fn held(unit: &Unit) -> Result<(Shape, Entries), Refusal> {
     let Some(shape) = Shape::of_unit(unit) else { return refuse(21) };
-    let Some(sizes) = block_sizes(unit) else { return refuse(22) };
-    Ok((shape, sizes))
+    let Some(block) = block_entries(unit) else { return refuse(22) };
+    Ok((shape, block))
 }
 
 /// Checks 4 and 9.

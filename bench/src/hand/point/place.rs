@@ -1,6 +1,6 @@
 //! Where a point lies: its cell, the order of the axes, and the weights.
 
-use crate::hand::shape::Shape;
+use crate::hand::shape::{Entries, Shape};
 use crate::hand::{Refusal, refuse};
 use crate::torskavel;
 
@@ -42,7 +42,7 @@ impl Placing {
     }
 }
 
-/// As the calls hand it on; no number is above those of a coordinate.
+/// As the calls hand it on; no number is above what is read from the origin.
 impl From<Placing> for torskavel::Placing {
     fn from(placing: Placing) -> torskavel::Placing {
         let [k1, k2, k3] = placing.cell.map(|k| k as u32);
@@ -64,23 +64,34 @@ pub fn denominator(shape: &Shape, divisor: u32) -> Result<u64, Refusal> {
     })
 }
 
-/// k and u. The far face belongs to the last cell; asked before the division, it costs next to nothing.
-fn split(coordinate: u32, size: usize, divisor: u32) -> (usize, u64) {
-    if coordinate == size as u32 * divisor {
+/// A coordinate read from the origin, or nothing where it is before it. It is below 2^31 + 2^27 by an allowed
+/// divisor, so 32 bits hold what is not negative.
+fn from_origin(coordinate: i32, origin: i16, divisor: u32) -> Option<u32> {
+    u32::try_from(i64::from(coordinate) - i64::from(origin) * i64::from(divisor)).ok()
+}
+
+/// k and u of what is read from the origin. The far face belongs to the last cell; asked before the division,
+/// it costs next to nothing.
+fn split(steps: u32, size: usize, divisor: u32) -> (usize, u64) {
+    if steps == size as u32 * divisor {
         return (size - 1, divisor.into());
     }
-    ((coordinate / divisor) as usize, (coordinate % divisor).into())
+    ((steps / divisor) as usize, (steps % divisor).into())
 }
 
 /// Check 12. The divisor is allowed, and `denominator` is its own.
 pub fn place(
     shape: &Shape,
-    sizes: [usize; 3],
-    coordinates: [u32; 3],
+    block: &Entries,
+    coordinates: [i32; 3],
     divisor: u32,
     denominator: u64,
 ) -> Result<Placing, Refusal> {
-    let split = [0, 1, 2].map(|b| split(coordinates[b], sizes[b], divisor));
+    let Entries { sizes, origin } = *block;
+    let steps = [0, 1, 2].map(|b| from_origin(coordinates[b], origin[b], divisor));
+    let [Some(x), Some(y), Some(z)] = steps else { return refuse(12) };
+    let steps = [x, y, z];
+    let split = [0, 1, 2].map(|b| split(steps[b], sizes[b], divisor));
     let cell = split.map(|(cell, _)| cell);
     let inside = (0..3).all(|b| shape.extents[b] <= cell[b] + 1 && cell[b] < sizes[b]);
     if !inside {

@@ -1,4 +1,4 @@
-use super::{pick, random_unit};
+use super::{pick, random_origin, random_unit};
 use crate::hand::{Load, Refusal, load, load_tuned};
 use crate::loads::by_library;
 use crate::torskavel::{NEVER_MEASURED, Unit};
@@ -14,13 +14,18 @@ fn random_file(random: &mut Random) -> Vec<u8> {
     let n = [0; 3].map(|_| pick(random, &[1, 2, 3, 3, 4, 4, 5, 6, 0, 64, 65, 65535]));
     let entries = n.iter().map(|&n| u64::from(n)).product::<u64>().min(4096) as usize;
     let mut words = n.to_vec();
+    words.extend(random_origin(random).map(|o| o as u16));
     words.extend((0..entries).map(|_| random.below(65536) as u16));
     words.extend((0..entries).map(|_| random.below(32768) as u16));
     if entries > 0 {
-        change_entries(&mut words[3..], entries, random);
+        change_entries(&mut words[6..], entries, random);
     }
     let mut file: Vec<u8> = words.into_iter().flat_map(u16::to_le_bytes).collect();
-    let length = pick(random, &[file.len(), file.len(), file.len(), file.len() - 1, file.len() + 1, 5]);
+    // Now and then without its origin, or of another length.
+    if random.below(8) == 0 {
+        file.drain(6..12);
+    }
+    let length = pick(random, &[file.len(), file.len(), file.len(), file.len() - 1, file.len() + 1, 5, 11]);
     file.resize(length, 0);
     file
 }
@@ -48,8 +53,8 @@ fn expected(unit: Unit, file: &[u8], mut slices: Slices) -> (Result<Unit, Refusa
         Ok((loaded, block)) => {
             slices.0[..block.corrections.len()].copy_from_slice(&block.corrections);
             slices.1[..block.uncertainties.len()].copy_from_slice(&block.uncertainties);
-            let [n1, n2, n3] = loaded.n;
-            Ok(Unit { has_block: 1, n1, n2, n3, ..unit })
+            let ([n1, n2, n3], [o1, o2, o3]) = (loaded.n, loaded.o);
+            Ok(Unit { has_block: 1, n1, n2, n3, o1, o2, o3, ..unit })
         }
         Err(refusal) => Err(Refusal { number: refusal.number.into(), place: refusal.place }),
     };

@@ -1,4 +1,4 @@
-use super::{pick, random_unit};
+use super::{past_origin, pick, random_unit};
 use crate::hand::{
     Answer, LiveAnswer, Refusal, SHAPES, Valuing, answer, defined_order, live_answer, live_tuned, place,
     tuned,
@@ -18,7 +18,7 @@ fn result<T>(number: u32, place: usize, answer: T) -> Result<T, Refusal> {
 }
 
 /// The number that the library's placing call answers, and the placing, where both agree.
-fn agreed_place(unit: Unit, point: [u32; 3], divisor: u32) -> (u32, Placing) {
+fn agreed_place(unit: Unit, point: [i32; 3], divisor: u32) -> (u32, Placing) {
     let library = torskavel::place(unit, point, divisor);
     let expected = result(library.number, library.place, library.placing);
     assert_eq!(place(unit, point, divisor), expected, "{unit:?} {point:?} {divisor}");
@@ -76,11 +76,12 @@ fn pick_mut<'a, T, const N: usize>(fields: [&'a mut T; N], random: &mut Random) 
     fields.into_iter().nth(random.between(0, N - 1)).expect("there are so many")
 }
 
-/// A coordinate in reach of the block, on its far face or just past it.
-fn coordinate(size: u16, divisor: u32, random: &mut Random) -> u32 {
-    let far = u32::from(size) * divisor;
-    let any = random.below(u64::from(far) + 2) as u32;
-    pick(random, &[any, any, any, far, far + 1])
+/// How far past the origin a coordinate in reach of the block is, or one on its far face, just past it or
+/// just before the origin.
+fn steps(size: u16, divisor: u32, random: &mut Random) -> i32 {
+    let far = i32::from(size) * divisor as i32;
+    let any = random.between(0, far as usize + 1) as i32;
+    pick(random, &[any, any, any, any, any, any, far, far, far + 1, -1])
 }
 
 #[test]
@@ -99,7 +100,7 @@ fn placings_agree() {
             corrections[random.between(0, ENTRIES - 1)] = i16::MIN;
         }
         let divisor = pick(&mut random, &[1, 2, 3, 7, 64, 64, 297, 0, 4096, 4097]);
-        let point = [unit.n1, unit.n2, unit.n3].map(|n| coordinate(n, divisor, &mut random));
+        let point = past_origin(&unit, divisor, |n| steps(n, divisor, &mut random));
         let (number, mut placing) = agreed_place(unit, point, divisor);
         if random.below(3) == 0 {
             placing = changed(placing, &mut random);

@@ -1,4 +1,4 @@
-use super::{pick, random_unit};
+use super::{past_origin, pick, random_origin, random_unit};
 use crate::hand::{
     Call, Fraction, LiveAnswer, Refusal, SHAPES, answer, defined_order, live_answer, live_tuned, tuned,
 };
@@ -9,12 +9,15 @@ use std::collections::BTreeSet;
 const CALLS: usize = 20_000;
 const PLACES: usize = 41 * 41 * 41;
 
-/// The coordinate, or now and then that of the far face of a block of this size, or one past it.
-fn or_far(coordinate: u32, size: u32, divisor: u32, random: &mut Random) -> u32 {
-    match random.below(8) {
-        0 | 1 => size * divisor,
-        2 => size * divisor + 1,
-        _ => coordinate,
+/// The steps past the origin, or now and then those of the far face of a block of this size, one more, or one
+/// before the origin.
+fn or_far(steps: usize, size: u16, divisor: u32, random: &mut Random) -> i32 {
+    let far = i32::from(size) * divisor as i32;
+    match random.below(16) {
+        0..4 => far,
+        4 | 5 => far + 1,
+        6 => -1,
+        _ => steps as i32,
     }
 }
 
@@ -82,9 +85,9 @@ fn points_agree() {
             corrections[random.between(0, 215)] = i16::MIN;
         }
         let divisor = pick(&mut random, &[1, 2, 3, 7, 64, 64, 297, 0, 4096, 4097]);
-        let coordinates = [unit.n1, unit.n2, unit.n3].map(|n| {
-            let any = random.below(6 * u64::from(divisor) + 1) as u32;
-            or_far(any, n.into(), divisor, &mut random)
+        let coordinates = past_origin(&unit, divisor, |n| {
+            let any = random.between(0, 6 * divisor as usize);
+            or_far(any, n, divisor, &mut random)
         });
         let net = &net[..pick(&mut random, &[PLACES, PLACES, PLACES, 2196, 26])];
         let corrections = &corrections[..pick(&mut random, &[215, 216, 216, 216, 216, 64])];
@@ -140,7 +143,9 @@ fn lent_nets_of_any_numbers_agree() {
     let mut random = Random::new(5);
     for (v, largest, live_largest) in LENT {
         let empty = torskavel::empty_unit();
-        let loaded = Unit { has_block: 1, n1: SIZE as u16, n2: SIZE as u16, n3: SIZE as u16, ..empty };
+        let [o1, o2, o3] = random_origin(&mut random);
+        let (n, has_block) = (SIZE as u16, 1);
+        let loaded = Unit { has_block, n1: n, n2: n, n3: n, o1, o2, o3, ..empty };
         let degree = v.iter().map(|&v| usize::from(v)).sum::<usize>() - 3;
         let (mut net, mut work) = (vec![0; torskavel::places(v)], vec![0; torskavel::places(v)]);
         let mut numbers = [BTreeSet::new(), BTreeSet::new()];
@@ -150,9 +155,9 @@ fn lent_nets_of_any_numbers_agree() {
             for _ in 0..20 {
                 disturb(&mut net, degree, &mut random);
                 let divisor = pick(&mut random, &[1, live_largest, live_largest + 1, largest - 1, largest]);
-                let coordinates = [0; 3].map(|_| {
-                    let any = random.between(8 * divisor as usize, SIZE * divisor as usize - 1) as u32;
-                    or_far(any, SIZE as u32, divisor, &mut random)
+                let coordinates = past_origin(&unit, divisor, |size| {
+                    let any = random.between(8 * divisor as usize, SIZE * divisor as usize - 1);
+                    or_far(any, size, divisor, &mut random)
                 });
                 let call = Call {
                     unit,

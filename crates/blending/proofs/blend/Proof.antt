@@ -9,6 +9,7 @@ use Rattle.unit.specs.Unit.{netOf}
 use Rattle.unit.specs.declared.Checked.{Checked}
 use Rattle.unit.specs.declared.Checked.the-variants.{Passed}
 use Rattle.unit.specs.declared.Refusal.{Refusal}
+use Rattle.placing.proofs.Origin.{handed-on}
 use Rattle.placing.proofs.Placed.{Lent, lent, place-placed, place-refused, point-accepted, unit-passed}
 use Rattle.placing.specs.Place.{lentChecks, placeAnswer, pointChecks, unitChecks}
 use Rattle.placing.specs.Placing.{placing, sizes}
@@ -43,7 +44,11 @@ module _ (c : tie.After-enum-told) where
 -- the placing call's answer
 place-is : (c : tie.After-place) → (let a = start (c .before) .args in
     c .place .result ≡ placeAnswer (a .unit) (a .x) (a .y) (a .z) (a .divisor))
-place-is c = c .place .ensures
+place-is c =
+    let s = start (c .before) in
+    c .place .ensures
+    ∙ handed-on (λ x y z. placeAnswer (s .args .unit) x y z (s .args .divisor)) (s .fits .x) (s .fits .y)
+    (s .fits .z)
 
 point-placed : (c : tie.After-known-told2) → (let a = start (c .before .before .before .before) .args in
     (pointChecks (a .unit) (a .x) (a .y) (a .z) (a .divisor) ≡ Passed)

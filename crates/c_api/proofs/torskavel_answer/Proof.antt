@@ -1,6 +1,7 @@
--- `point::answer` gets the unit that the record stands for, and its answer is made flat.
+-- `point::answer` gets the unit that the record stands for and the coordinates, and its answer is made flat.
 use mathlib.Core.Path.{_∙_, ap}
 use borrow.Author.Needs.{needs}
+use Rattle.placing.proofs.Origin.{handed-on}
 use Rattle.point.specs.Answer.{pointAnswer}
 use Rattle.c_api.proofs.torskavel_answer.Statement.{statement}
 use Rattle.flat.specs.Flat.{flatPoint}
@@ -18,14 +19,18 @@ flat-point-requires c κs = search needs
 returns : tie.Need-returns
 returns c =
     let handed = c .before .before in
-    let args = handed .before .before .before .args in
+    let start = handed .before .before .before in
+    let args = start .args in
     let net = args .net .now in
     let corrections = args .corrections .now in
     let uncertainties = args .uncertainties .now in
     let divisor = args .divisor in
     let same = ap (λ u. pointAnswer u net corrections uncertainties (args .x) (args .y) (args .z) divisor)
     (handed .unit-of .ensures) in
-    c .flat-point .ensures ∙ ap flatPoint (c .before .answer .ensures ∙ same)
+    let point = handed-on
+    (λ x y z. pointAnswer (handed .unit-of .result) net corrections uncertainties x y z divisor)
+    (start .fits .x) (start .fits .y) (start .fits .z) in
+    c .flat-point .ensures ∙ ap flatPoint (c .before .answer .ensures ∙ point ∙ same)
 
 pub torskavel-answer-spec : {M : Type 1} → statement M
 torskavel-answer-spec =

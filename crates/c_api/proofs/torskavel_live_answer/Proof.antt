@@ -1,9 +1,10 @@
--- `live::answer` gets the unit that the record stands for and the flag that the byte stands for, and its
--- answer is made flat.
+-- `live::answer` gets the unit that the record stands for, the coordinates and the flag that the byte stands
+-- for, and its answer is made flat.
 use mathlib.Core.Bool.{Bool}
 use mathlib.Core.Path.{_∙_, ap, ap₂}
 use borrow.Author.Needs.{needs}
 use Rattle.unit.specs.declared.Unit.{Unit}
+use Rattle.placing.proofs.Origin.{handed-on}
 use Rattle.live.specs.Answer.{liveAnswer}
 use Rattle.c_api.proofs.torskavel_live_answer.Statement.{statement}
 use Rattle.flat.specs.Flat.{flatLive}
@@ -25,7 +26,8 @@ returns : tie.Need-returns
 returns c =
     let flag = c .before .before in
     let handed = flag .before in
-    let args = handed .before .before .before .args in
+    let start = handed .before .before .before in
+    let args = start .args in
     let net = args .net .now in
     let corrections = args .corrections .now in
     let uncertainties = args .uncertainties .now in
@@ -34,7 +36,10 @@ returns c =
     (λ (u : Unit) (on : Bool).
     liveAnswer u net corrections uncertainties (args .x) (args .y) (args .z) divisor on)
     (handed .unit-of .ensures) (flag .switched-on .ensures) in
-    c .flat-live .ensures ∙ ap flatLive (c .before .answer .ensures ∙ same)
+    let point = handed-on
+    (λ x y z. liveAnswer (handed .unit-of .result) net corrections uncertainties x y z divisor
+    (flag .switched-on .result)) (start .fits .x) (start .fits .y) (start .fits .z) in
+    c .flat-live .ensures ∙ ap flatLive (c .before .answer .ensures ∙ point ∙ same)
 
 pub torskavel-live-answer-spec : {M : Type 1} → statement M
 torskavel-live-answer-spec =

@@ -1,7 +1,8 @@
--- `placing::place` gets the unit that the record stands for, and its answer is made flat.
+-- `placing::place` gets the unit that the record stands for and the coordinates, and its answer is made flat.
 use mathlib.Core.Path.{_∙_, ap}
 use borrow.Author.Needs.{needs}
 use Rattle.unit.specs.declared.Unit.{Unit}
+use Rattle.placing.proofs.Origin.{handed-on}
 use Rattle.placing.specs.Place.{placeAnswer}
 use Rattle.c_api.proofs.torskavel_place.Statement.{statement}
 use Rattle.flat.specs.Flat.{flatPlacing}
@@ -19,10 +20,13 @@ flat-placing-requires c κs = search needs
 returns : tie.Need-returns
 returns c =
     let handed = c .before .before in
-    let args = handed .before .args in
+    let start = handed .before in
+    let args = start .args in
     let same = ap (λ (u : Unit). placeAnswer u (args .x) (args .y) (args .z) (args .divisor))
     (handed .unit-of .ensures) in
-    c .flat-placing .ensures ∙ ap flatPlacing (c .before .place .ensures ∙ same)
+    let point = handed-on (λ x y z. placeAnswer (handed .unit-of .result) x y z (args .divisor))
+    (start .fits .x) (start .fits .y) (start .fits .z) in
+    c .flat-placing .ensures ∙ ap flatPlacing (c .before .place .ensures ∙ point ∙ same)
 
 pub torskavel-place-spec : {M : Type 1} → statement M
 torskavel-place-spec =

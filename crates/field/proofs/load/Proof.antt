@@ -11,6 +11,7 @@ use Rattle.unit.specs.declared.Checked.the-variants.{Passed}
 use Rattle.unit.specs.declared.UnitAnswer.the-variants.{Changed}
 use Rattle.field.proofs.Accepted.{LoadAccepted, has-entries, load-accepted}
 use Rattle.field.proofs.Entries.{counted}
+use Rattle.field.proofs.Twos.{read-back}
 use Rattle.field.proofs.load.Statement.{statement}
 use Rattle.field.specs.File.{entryCount}
 use Rattle.field.specs.Inner.Entries.{HasEntries}
@@ -40,13 +41,13 @@ module _ (c : tie.After-enum-told) where
 -- the entries have been counted
 module _ (c : tie.After-entries) where
   abbrev checked : tie.After-enum-told
-  checked = c .before .before
+  checked = c .before .before .before
 
   abbrev n : ℕ
   n = c .entries .result
 
   count : n ≡ entryCount (file checked)
-  count = counted _ (file checked) (c .entries .ensures) (c .before .read .ensures)
+  count = counted _ (file checked) (c .entries .ensures) (c .before .before .read .ensures)
 
   readable : HasEntries (file checked) n
   readable = has-entries (file checked) (taken checked .layout) count
@@ -71,6 +72,9 @@ enum-told c = search needs
 
 read-requires : tie.Need-read-requires
 read-requires c κs = taken c .layout .header
+
+read-requires-2 : tie.Need-read-requires-2
+read-requires-2 c κs = taken (c .before) .layout .header
 
 entries-requires : tie.Need-entries-requires
 entries-requires c κs = search needs
@@ -97,12 +101,18 @@ same-length-2 c = search needs
 returns-2 : tie.Need-returns-2
 unfolding loadAnswer loadCorrections loadUncertainties
 returns-2 c =
-    let read-u = c .before .before .before .read-uncertainties in
-    let read-c = c .before .before .before .before .before .before .read-corrections in
-    let b = c .before .before .before .before .before .before .before .before in
-    let sizes = b .before .read .ensures in
+    let told = c .before .before .before in
+    let read-u = told .before .before .before .read-uncertainties in
+    let read-c = told .before .before .before .before .before .before .read-corrections in
+    let b = told .before .before .before .before .before .before .before .before in
+    let sizes = b .before .before .read .ensures in
+    let origin = b .before .read2 .ensures in
+    let fits = told .struct-told .given in
+    let o1 = read-back (fits .0 .1) (origin .0) in
+    let o2 = read-back (fits .1 .0 .1) (origin .1) in
+    let o3 = read-back (fits .1 .1 .0 .1) (origin .2) in
     let e = passed (checked b) in (
-      simp e (ap Changed (c .with-block .ensures ∙ simp (sizes .0, sizes .1, sizes .2))),
+      simp e (ap Changed (c .with-block .ensures ∙ simp (sizes .0, sizes .1, sizes .2, o1, o2, o3))),
       (simp (e, ← (count b)) (read-c .ensures), simp (e, ← (count b)) (read-u .ensures)),
     )
 
@@ -115,6 +125,7 @@ load-spec =
     returns
     enum-told
     read-requires
+    read-requires-2
     entries-requires
     read-corrections-requires
     read-uncertainties-requires

@@ -4,15 +4,14 @@ use mathlib.Core.Path.{_∙_, _≡_, ap, refl, sym}
 use Prim.Native.Nat.{_-_, _≤_, ℕ}
 use native.Mathlib.Nat.{le-antisymm}
 use native.Mathlib.Omega.{arith}
-use borrow.Author.Needs.{sfits-of}
 use lib.IntN.{ℤ}
 use lib.ListN.{length, length-set, set}
-use mir.Facts.{toZ-ofZ}
 use mir.Syntax.{w16}
 use mir.Val.{ofZ, toZ}
 use denote.Ref.{now}
 use Rattle.sums.proofs.Fill.{fill-none, fill-store}
 use Rattle.sums.specs.Fill.{filled}
+use Rattle.field.proofs.Twos.{read-back}
 use Rattle.field.proofs.read_corrections.Statement.{statement}
 use Rattle.field.specs.File.{correction}
 use Rattle.field.proofs.read_corrections.Tie as tie
@@ -37,7 +36,7 @@ module _ (c : tie.After-correction-at Inv-loop μ-loop) where
   stored = toZ w16 (ofZ w16 (c .correction-at .result))
 
   read : stored ≡ correction (now (start .args .file)) i
-  read = toZ-ofZ (sfits-of (c .correction-at .ok)) ∙ c .correction-at .ensures
+  read = read-back (c .correction-at .ok) (c .correction-at .ensures)
 
 loop-holds : tie.Need-loop-holds Inv-loop μ-loop
 loop-holds c = (omega arith, sym (fill-none _ _), refl)

@@ -10,6 +10,7 @@ use Rattle.spline.specs.Multiplicities.{degree}
 use Rattle.unit.specs.Checks.{andThen}
 use Rattle.unit.specs.Unit.{netOf}
 use Rattle.unit.specs.declared.Checked.the-variants.{Passed}
+use Rattle.placing.proofs.Origin.{handed-on}
 use Rattle.placing.specs.Place.{divisorChecks, lentChecks, liveCheck, liveLimit, scale, unitChecks}
 use Rattle.placing.specs.Placing.{placing, weightSum}
 use Rattle.placing.specs.declared.Placing.{Placing}
@@ -46,17 +47,28 @@ module _ (c : tie.After-enum-told2) where
       ≡ Passed)
   early-passed = sym (c .before .before .check-live .ensures) ∙ c .enum-told2 .given .1
 
--- once the point is blended
-module _ (c : tie.After-spreads2) where
-  -- where the call of blend has returned
-  abbrev made : tie.After-blend
-  made = c .before .before .before .before .before
-
+-- where the call of blend has returned
+module _ (c : tie.After-blend) where
   abbrev passed : tie.After-enum-told2
-  passed = made .before .before .before
+  passed = c .before .before .before
 
   abbrev asked : tie.Start
   asked = start (told passed)
+
+  blend-is : (let a = asked .args in
+      c .blend .result
+      ≡ blendAnswer (a .unit) (now (a .net)) (now (a .corrections)) (now (a .uncertainties)) (a .x) (a .y)
+      (a .z) (a .divisor))
+  blend-is =
+      let a = asked .args in
+      c .blend .ensures .0
+      ∙ handed-on (λ x y z. blendAnswer (a .unit) (now (a .net)) (now (a .corrections))
+      (now (a .uncertainties)) x y z (a .divisor)) (asked .fits .x) (asked .fits .y) (asked .fits .z)
+
+-- once the point is blended
+module _ (c : tie.After-spreads2) where
+  abbrev made : tie.After-blend
+  made = c .before .before .before .before .before
 
   abbrev q : Placing
   q = c .before .before .before .blended .given .0 .0
@@ -67,35 +79,37 @@ module _ (c : tie.After-spreads2) where
   abbrev spreads : List ℕ
   spreads = made .blend .last .1 .1 .1 .1 .1 .1 .1 .1 .1 .0
 
-  answered-with : (let a = asked .args in
+  answered-with : (let a = asked made .args in
       blendAnswer (a .unit) (now (a .net)) (now (a .corrections)) (now (a .uncertainties)) (a .x) (a .y)
       (a .z) (a .divisor)
       ≡ Placed q)
-  answered-with = sym (made .blend .ensures .0) ∙ c .before .before .before .blended .given .1
+  answered-with = sym (blend-is made) ∙ c .before .before .before .blended .given .1
 
   -- all checks have passed, and the placing is the point's
-  placed : (let a = asked .args in
+  placed : (let a = asked made .args in
       (blendChecks (a .unit) (now (a .net)) (now (a .corrections)) (now (a .uncertainties)) (a .x) (a .y)
       (a .z) (a .divisor)
       ≡ Passed)
       × (q ≡ placing (a .unit) (a .x) (a .y) (a .z) (a .divisor)))
   placed = blend-placed _ _ _ _ _ _ _ _ answered-with
 
-  left : (let a = asked .args in
+  left : (let a = asked made .args in
       blended.Blended (a .unit) (now (a .net)) (now (a .corrections)) (now (a .uncertainties)) q shifts
       spreads)
   left =
       let b = made .blend .ensures in
-      blended.blended-point _ _ _ _ _ _ _ _ _ _ answered-with (b .1 .0) (b .1 .1 .0)
-      (b .1 .1 .1 q (c .before .before .before .blended .given .1))
+      let s = asked made in
+      blended.blended-point _ _ _ _ (s .args .divisor) _ _ (s .fits .x) (s .fits .y) (s .fits .z)
+      answered-with (b .1 .0) (b .1 .1 .0) (b .1 .1 .1 q (c .before .before .before .blended .given .1))
 
   -- m!×D^m by the weights is that by the divisor
-  within : scale (degree (netOf (asked .args .unit))) (weightSum q) ≤ liveLimit
+  within : scale (degree (netOf (asked made .args .unit))) (weightSum q) ≤ liveLimit
   within =
-      let a = asked .args in
+      let a = asked made .args in
       rw (ap weightSum (placed .1) ∙ weights-are _ _ _ _ _ _ _ _ (placed .0))
       (scale-within (a .unit) (now (a .net)) (now (a .corrections)) (now (a .uncertainties)) (a .x) (a .y)
-      (a .z) (a .divisor) (a .with-uncertainty) (lent-passed (told passed)) (early-passed passed))
+      (a .z) (a .divisor) (a .with-uncertainty) (lent-passed (told (passed made)))
+      (early-passed (passed made)))
 
 check-lent-requires : tie.Need-check-lent-requires
 check-lent-requires c κs = search needs
@@ -141,8 +155,8 @@ enum-known-blended-2 c = search needs
 returns-3 : tie.Need-returns-3
 returns-3 c =
     let d = c .before in
-    let p = passed d in
-    let a = asked d .args in
+    let p = passed (made d) in
+    let a = asked (made d) .args in
     let value : Fraction → LiveAnswer
     = λ f. liveValue (a .with-uncertainty) (f .numerator) (f .uncertainty) in
     c .summed .ensures
@@ -153,10 +167,10 @@ returns-3 c =
 
 returns-4 : tie.Need-returns-4
 returns-4 c =
-    let made = c .before .before .before in
-    let p = made .before .before .before in
+    let m = c .before .before .before in
+    let p = passed m in
     blend-refused _ _ _ _ _ _ _ _ _ (lent-passed (told p)) (early-passed p)
-    (sym (made .blend .ensures .0) ∙ c .before .blended2 .given .1)
+    (sym (blend-is m) ∙ c .before .blended2 .given .1)
 
 pub answer-spec : {M : Type 1} → statement M
 answer-spec =

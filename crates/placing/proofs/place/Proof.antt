@@ -1,23 +1,29 @@
--- The checks come in the definition's order; past 10 and 11 the point is located once on each axis, and the
--- test of the cell and the placing go by that.
-use mathlib.Core.Path.{_∙_, _≡_, ap, refl, sym}
+-- The checks come in the definition's order; past 10 and 11 each coordinate is read from its axis' origin,
+-- and past 12 on their signs none is negative, so the cast to 32 bits keeps it.
+use mathlib.Core.Path.{_∙_, _≡_, sym}
+use Prim.Native.Nat.{ℕ}
+use native.Mathlib.Omega.{arith}
 use borrow.Author.Needs.{needs}
-use Rattle.unit.proofs.Limits.{BlockLimits, block-limits}
+use lib.IntN.{natAbs, ℤ}
+use Rattle.unit.specs.Checks.{passedOr}
 use Rattle.unit.specs.Unit.{netOf}
 use Rattle.unit.specs.declared.Checked.the-variants.{Passed}
-use Rattle.placing.proofs.Cells.{remainder-most}
+use Rattle.unit.specs.declared.Unit.{Unit}
+use Rattle.placing.proofs.Origin.{NoneNegative, ReadAs, alike, casts-down, read-as, signs-passed}
 use Rattle.placing.proofs.Placed.{DivisorAccepted, Equipped, divisor-accepted, equipped}
 use Rattle.placing.proofs.place.Statement.{statement}
-use Rattle.placing.specs.Place.{divisorChecks, insideCheck, placeAnswer, pointChecks, unitChecks}
-use Rattle.placing.specs.Placing.{cells, located, onAxes, placing, placingOn, sizes}
-use Rattle.placing.specs.declared.Located.{Located}
-use Rattle.placing.specs.declared.PlacingAnswer.the-variants.{Placed}
+use Rattle.placing.specs.Place.{cellCheck, divisorChecks, insideCheck, signCheck, placeAnswer}
+use Rattle.placing.specs.Place.{pointChecks, unitChecks}
+use Rattle.placing.specs.Placing.{blockCells, blockPlacing, fromOrigin, placing, sizes}
+use Rattle.placing.specs.declared.PlacingAnswer.{PlacingAnswer}
+use Rattle.placing.specs.declared.PlacingAnswer.the-variants.{Placed, Refused}
 use Rattle.placing.proofs.place.Tie as tie
 
--- equal locations make equal things
-alike : {A : Type 0} (f : Located → Located → Located → A) {a b c x y z : Located}
-    → a ≡ x → b ≡ y → c ≡ z → f a b c ≡ f x y z
-alike f ea eb ec = rw (ea, eb, ec) refl
+-- the answer by the numbers that were read
+abbrev blockAnswer : Unit → ℕ → ℤ → ℤ → ℤ → PlacingAnswer
+blockAnswer u D x y z =
+    passedOr (cellCheck (netOf u) (sizes u) (blockCells u (natAbs x) (natAbs y) (natAbs z) D))
+    (Placed (blockPlacing u (natAbs x) (natAbs y) (natAbs z) D)) Refused
 
 -- the unit has passed
 module _ (c : tie.After-enum-told) where
@@ -38,35 +44,48 @@ module _ (c : tie.After-enum-told2) where
   divisor : DivisorAccepted (netOf (start .args .unit)) (start .args .divisor)
   divisor = divisor-accepted _ _ divisor-passed
 
-  limits : (let u = start .args .unit in BlockLimits (u .n1) (u .n2) (u .n3))
-  limits = block-limits (start .args .unit) (held (c .before .before .before) .block-held) .limits
-
--- the point is located on each axis
-module _ (c : tie.After-locate3) where
+-- each coordinate is read from the origin
+module _ (c : tie.After-from-origin3) where
   abbrev passed : tie.After-enum-told2
-  passed = c .before .before .before
+  passed = c .before .before .before .before .before .before
 
-  first-is : (let a = start passed .args in
-      c .before .before .locate .result ≡ located (a .x) (a .divisor) (a .unit .n1))
-  first-is = c .before .before .locate .ensures
+  first : (let a = start passed .args in
+      ReadAs (a .x) (a .unit .o1) (a .divisor) (c .before .before .before .before .from-origin .result))
+  first =
+      let f = c .before .before .before .before in
+      let told = f .before .struct-told .given .1 .1 .1 .1 .1 .1 .1 .1 .1 in
+      read-as (start passed .args .divisor) (start passed .fits .x) (record { sfits = told .0 .1 })
+      (f .from-origin .ensures .0) (omega (arith, f .from-origin .ensures .1))
 
-  second-is : (let a = start passed .args in
-      c .before .locate2 .result ≡ located (a .y) (a .divisor) (a .unit .n2))
-  second-is = c .before .locate2 .ensures
+  second : (let a = start passed .args in
+      ReadAs (a .y) (a .unit .o2) (a .divisor) (c .before .before .from-origin2 .result))
+  second =
+      let f = c .before .before in
+      let told = f .before .struct-told2 .given .1 .1 .1 .1 .1 .1 .1 .1 .1 in
+      read-as (start passed .args .divisor) (start passed .fits .y) (record { sfits = told .1 .0 .1 })
+      (f .from-origin2 .ensures .0) (omega (arith, f .from-origin2 .ensures .1))
 
-  third-is : (let a = start passed .args in
-      c .locate3 .result ≡ located (a .z) (a .divisor) (a .unit .n3))
-  third-is = c .locate3 .ensures
+  third : (let a = start passed .args in
+      ReadAs (a .z) (a .unit .o3) (a .divisor) (c .from-origin3 .result))
+  third =
+      let told = c .before .struct-told3 .given .1 .1 .1 .1 .1 .1 .1 .1 .1 in
+      read-as (start passed .args .divisor) (start passed .fits .z) (record { sfits = told .1 .1 .0 .1 })
+      (c .from-origin3 .ensures .0) (omega (arith, c .from-origin3 .ensures .1))
 
--- and its cell is looked at
-inside-is : (c : tie.After-check-inside) → (let a = start (passed (c .before)) .args in
-    c .check-inside .result
-    ≡ insideCheck (netOf (a .unit)) (sizes (a .unit)) (cells (a .unit) (a .x) (a .y) (a .z) (a .divisor)))
-inside-is c =
-    let u = start (passed (c .before)) .args .unit in
-    c .check-inside .ensures
-    ∙ alike (λ a b c. insideCheck (netOf u) (sizes u) (onAxes (a .cell) (b .cell) (c .cell)))
-    (first-is (c .before)) (second-is (c .before)) (third-is (c .before))
+-- and their signs are looked at
+signs-are : (c : tie.After-check-signs) → (let a = start (passed (c .before)) .args in
+    c .check-signs .result
+    ≡ signCheck (fromOrigin (a .x) (a .unit .o1) (a .divisor))
+    (fromOrigin (a .y) (a .unit .o2) (a .divisor)) (fromOrigin (a .z) (a .unit .o3) (a .divisor)))
+signs-are c =
+    let f = c .before in
+    c .check-signs .ensures ∙ alike signCheck (first f .is) (second f .is) (third f .is)
+
+-- none is negative
+past : (c : tie.After-enum-told3) → (let a = start (passed (c .before .before .before)) .args in
+    NoneNegative (fromOrigin (a .x) (a .unit .o1) (a .divisor))
+    (fromOrigin (a .y) (a .unit .o2) (a .divisor)) (fromOrigin (a .z) (a .unit .o3) (a .divisor)))
+past c = signs-passed _ _ _ (sym (signs-are (c .before .before)) ∙ c .enum-told3 .given .1)
 
 check-unit-requires : tie.Need-check-unit-requires
 check-unit-requires c κs = search needs
@@ -96,59 +115,63 @@ returns-2 c =
 enum-told-2 : tie.Need-enum-told-2
 enum-told-2 c = search needs
 
-locate-requires : tie.Need-locate-requires
-locate-requires c κs = (divisor c .some, divisor c .few, limits c .least1)
+from-origin-requires : tie.Need-from-origin-requires
+from-origin-requires c κs = divisor (c .before) .few
 
-locate-requires-2 : tie.Need-locate-requires-2
-locate-requires-2 c κs = let p = c .before in (divisor p .some, divisor p .few, limits p .least2)
+from-origin-requires-2 : tie.Need-from-origin-requires-2
+from-origin-requires-2 c κs = divisor (c .before .before .before) .few
 
-locate-requires-3 : tie.Need-locate-requires-3
-locate-requires-3 c κs = let p = c .before .before in (divisor p .some, divisor p .few, limits p .least3)
+from-origin-requires-3 : tie.Need-from-origin-requires-3
+from-origin-requires-3 c κs = divisor (c .before .before .before .before .before) .few
 
-check-inside-requires : tie.Need-check-inside-requires
-check-inside-requires c κs = held (passed c .before .before .before) .block-held
+check-signs-requires : tie.Need-check-signs-requires
+check-signs-requires c κs = search needs
 
 enum-known-refusal-3 : tie.Need-enum-known-refusal-3
 enum-known-refusal-3 c = search needs
 
 returns-3 : tie.Need-returns-3
-unfolding placeAnswer pointChecks
+unfolding placeAnswer pointChecks insideCheck
 returns-3 c =
-    let i = c .before .before .before in
-    let p = passed (i .before) in
+    let o = c .before .before .before in
+    let p = passed (o .before) in
     simp (
       unit-passed (p .before .before .before),
       divisor-passed p,
-      sym (inside-is i) ∙ c .before .refusal3 .given .1,
+      sym (signs-are o) ∙ c .before .refusal3 .given .1,
     )
 
 enum-told-3 : tie.Need-enum-told-3
 enum-told-3 c = search needs
 
-placing-of-requires : tie.Need-placing-of-requires
-placing-of-requires c κs =
-    let l = c .before .before .before in
-    let a = start (passed l) .args in
-    let some = divisor (passed l) .some in (
-      rw (first-is l) (remainder-most (a .x) (a .divisor) (a .unit .n1) some),
-      rw (second-is l) (remainder-most (a .y) (a .divisor) (a .unit .n2) some),
-      rw (third-is l) (remainder-most (a .z) (a .divisor) (a .unit .n3) some),
-    )
+cast-place-in-block : tie.Need-cast-place-in-block
+cast-place-in-block c = casts-down (first (c .before .before .before)) (past c .first)
+
+cast-place-in-block-2 : tie.Need-cast-place-in-block-2
+cast-place-in-block-2 c = casts-down (second (c .before .before .before)) (past c .second)
+
+cast-place-in-block-3 : tie.Need-cast-place-in-block-3
+cast-place-in-block-3 c = casts-down (third (c .before .before .before)) (past c .third)
+
+place-in-block-requires : tie.Need-place-in-block-requires
+place-in-block-requires c κs =
+    let p = passed (c .before .before .before) in
+    (held (p .before .before .before) .block-held, divisor p .some, divisor p .few)
 
 returns-4 : tie.Need-returns-4
-unfolding placeAnswer pointChecks placing
+unfolding placeAnswer pointChecks insideCheck placing
 returns-4 c =
-    let i = c .before .before .before in
-    let l = i .before in
-    let p = passed l in
+    let o = c .before .before .before in
+    let f = o .before in
+    let p = passed f in
     simp (
       unit-passed (p .before .before .before),
       divisor-passed p,
-      sym (inside-is i) ∙ c .before .enum-told3 .given .1,
+      sym (signs-are o) ∙ c .before .enum-told3 .given .1,
     )
-    (ap Placed
-    (c .placing-of .ensures
-    ∙ alike (λ x y z. placingOn x y z (start p .args .divisor)) (first-is l) (second-is l) (third-is l)))
+    (c .place-in-block .ensures
+    ∙ alike (blockAnswer (start p .args .unit) (start p .args .divisor)) (first f .is) (second f .is)
+    (third f .is))
 
 pub place-spec : {M : Type 1} → statement M
 place-spec =
@@ -162,12 +185,15 @@ place-spec =
     enum-known-refusal-2
     returns-2
     enum-told-2
-    locate-requires
-    locate-requires-2
-    locate-requires-3
-    check-inside-requires
+    from-origin-requires
+    from-origin-requires-2
+    from-origin-requires-3
+    check-signs-requires
     enum-known-refusal-3
     returns-3
     enum-told-3
-    placing-of-requires
+    cast-place-in-block
+    cast-place-in-block-2
+    cast-place-in-block-3
+    place-in-block-requires
     returns-4)

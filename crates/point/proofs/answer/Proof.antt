@@ -5,6 +5,7 @@ use Prim.Native.Nat.{ℕ}
 use borrow.Author.Needs.{needs}
 use lib.IntN.{ℤ}
 use denote.Ref.{now}
+use Rattle.placing.proofs.Origin.{handed-on}
 use Rattle.placing.specs.Placing.{weightSum}
 use Rattle.placing.specs.declared.Placing.{Placing}
 use Rattle.placing.specs.declared.PlacingAnswer.the-variants.{Placed}
@@ -16,14 +17,25 @@ use Rattle.point.specs.declared.Fraction.{Fraction}
 use Rattle.point.specs.declared.PointAnswer.the-variants.{Value}
 use Rattle.point.proofs.answer.Tie as tie
 
+-- where the call of blend has returned
+module _ (c : tie.After-blend) where
+  abbrev start : tie.Start
+  start = c .before .before .before .before .before
+
+  blend-is : (let a = start .args in
+      c .blend .result
+      ≡ blendAnswer (a .unit) (now (a .net)) (now (a .corrections)) (now (a .uncertainties)) (a .x) (a .y)
+      (a .z) (a .divisor))
+  blend-is =
+      let a = start .args in
+      c .blend .ensures .0
+      ∙ handed-on (λ x y z. blendAnswer (a .unit) (now (a .net)) (now (a .corrections))
+      (now (a .uncertainties)) x y z (a .divisor)) (start .fits .x) (start .fits .y) (start .fits .z)
+
 -- once the point is blended
 module _ (c : tie.After-spreads2) where
-  -- where the call of blend has returned
   abbrev made : tie.After-blend
   made = c .before .before .before .before .before
-
-  abbrev start : tie.Start
-  start = made .before .before .before .before .before
 
   abbrev q : Placing
   q = c .before .before .before .blended .given .0 .0
@@ -34,19 +46,20 @@ module _ (c : tie.After-spreads2) where
   abbrev spreads : List ℕ
   spreads = made .blend .last .1 .1 .1 .1 .1 .1 .1 .1 .1 .0
 
-  answered : (let a = start .args in
+  answered : (let a = start made .args in
       blendAnswer (a .unit) (now (a .net)) (now (a .corrections)) (now (a .uncertainties)) (a .x) (a .y)
       (a .z) (a .divisor)
       ≡ Placed q)
-  answered = sym (made .blend .ensures .0) ∙ c .before .before .before .blended .given .1
+  answered = sym (blend-is made) ∙ c .before .before .before .blended .given .1
 
-  left : (let a = start .args in
+  left : (let a = start made .args in
       blended.Blended (a .unit) (now (a .net)) (now (a .corrections)) (now (a .uncertainties)) q shifts
       spreads)
   left =
       let b = made .blend .ensures in
-      blended.blended-point _ _ _ _ _ _ _ _ _ _ answered (b .1 .0) (b .1 .1 .0)
-      (b .1 .1 .1 q (c .before .before .before .blended .given .1))
+      let s = start made in
+      blended.blended-point _ _ _ _ (s .args .divisor) _ _ (s .fits .x) (s .fits .y) (s .fits .z) answered
+      (b .1 .0) (b .1 .1 .0) (b .1 .1 .1 q (c .before .before .before .blended .given .1))
 
 blend-requires : tie.Need-blend-requires
 blend-requires c κs = search needs
@@ -63,7 +76,7 @@ enum-known-blended-2 c = search needs
 returns : tie.Need-returns
 returns c =
     let d = c .before in
-    let a = start d .args in
+    let a = start (made d) .args in
     let placed = blend-placed _ _ _ _ (a .x) (a .y) (a .z) (a .divisor) (answered d) in
     let at : Placing → ℕ → Fraction
     = fractionAt (a .unit) (now (a .net)) (now (a .corrections)) (now (a .uncertainties)) in
@@ -77,7 +90,7 @@ returns c =
 returns-2 : tie.Need-returns-2
 returns-2 c =
     answer-refused _ _ _ _ _ _ _ _
-    (sym (c .before .before .before .blend .ensures .0) ∙ c .before .blended2 .given .1)
+    (sym (blend-is (c .before .before .before)) ∙ c .before .blended2 .given .1)
 
 pub answer-spec : {M : Type 1} → statement M
 answer-spec =

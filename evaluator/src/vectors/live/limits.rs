@@ -1,7 +1,7 @@
 //! The largest divisors of each degree and those past them, with the largest numbers.
 
 use super::super::points::some_of;
-use super::super::scene::{Scene, coordinates};
+use super::super::scene::Scene;
 use super::super::{faces, shape, window};
 use crate::field::Block;
 use crate::live;
@@ -44,8 +44,8 @@ fn at_limits(v: Multiplicities, random: &mut Random) -> Scene {
     block.uncertainties.fill(65535);
     let mut scene = Scene::new(v, block);
     let (largest, exact) = (live::largest_divisor(v.degree()), point::largest_divisor(v.degree()));
-    let inside = |d: u32| coordinates(scene.first_cell(), [d / 2, d / 3, d / 5], d);
-    let outside = |d: u32| coordinates(scene.first_cell(), [0; 3], d).map(|c| c - 1);
+    let inside = |d: u32| scene.at(scene.first_cell(), [d / 2, d / 3, d / 5], d);
+    let outside = |d: u32| scene.at(scene.first_cell(), [0; 3], d).map(|c| c - 1);
     let far = scene.moved_far(inside(largest), faces::WAYS[random.between(0, 6)], largest);
     let within = [inside(largest), far, outside(largest)].map(|point| (point, largest));
     let past = [largest + 1, exact + 1].map(|d| [(inside(d), d), (outside(d), d)]);
@@ -59,7 +59,7 @@ fn at_limits(v: Multiplicities, random: &mut Random) -> Scene {
 fn at_vertices(v: Multiplicities, correction: i16) -> Scene {
     let mut scene = Scene::new(v, Block::constant(window(v), correction, 65535));
     let divisor = live::largest_divisor(v.degree());
-    let low = coordinates(scene.last_cell(), [0; 3], divisor);
+    let low = scene.at(scene.last_cell(), [0; 3], divisor);
     for axes in [&[][..]].into_iter().chain(faces::WAYS) {
         scene.ask(scene.moved_far(low, axes, divisor), divisor);
     }

@@ -4,15 +4,15 @@ mod limits;
 mod zeros;
 
 use super::scene::{Scene, header};
-use super::{Shelf, damage, gaps, points, refusals};
+use super::{Shelf, damage, gaps, origins, points, refusals};
 use crate::live;
 use crate::net::Multiplicities;
 use crate::unit::told;
 
 const FORMS: &str = "\
-# live HAS-NET V1 V2 V3 V4 HAS-BLOCK N1 N2 N3 NET C U X Y Z D FLAG both BITS BITS
-# live HAS-NET V1 V2 V3 V4 HAS-BLOCK N1 N2 N3 NET C U X Y Z D FLAG shift BITS
-# live HAS-NET V1 V2 V3 V4 HAS-BLOCK N1 N2 N3 NET C U X Y Z D FLAG refused NUMBER PLACE
+# live UNIT NET C U X Y Z D FLAG both BITS BITS
+# live UNIT NET C U X Y Z D FLAG shift BITS
+# live UNIT NET C U X Y Z D FLAG refused NUMBER PLACE
 ";
 
 pub const WORDS: &str = "\
@@ -25,13 +25,15 @@ pub const OFF: u8 = 0;
 pub const ON: [u8; 4] = [1, 255, 2, 128];
 
 pub fn shapes() -> Vec<Multiplicities> {
-    [limits::shapes(), zeros::shapes(), refusals::shapes(), damage::shapes(), gaps::shapes()].concat()
+    let own = [limits::shapes(), zeros::shapes()].concat();
+    [own, refusals::shapes(), damage::shapes(), gaps::shapes(), origins::shapes()].concat()
 }
 
 pub fn scenes(shelf: &Shelf) -> Vec<Scene> {
     let own = [points::figures(), limits::scenes(), zeros::scenes(shelf)];
     let shared = [refusals::live_scenes(shelf), damage::live_scenes(shelf), gaps::scenes()];
-    own.into_iter().chain(shared).flatten().collect()
+    let moved = [vec![origins::live_scene()], refusals::moved::live_scenes(shelf)];
+    own.into_iter().chain(shared).chain(moved).flatten().collect()
 }
 
 /// The two lines of each case.

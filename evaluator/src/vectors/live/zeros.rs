@@ -1,6 +1,6 @@
 //! Numbers that are 0, and terms that are 0 with a negative factor, where a float could be a negative 0.
 
-use super::super::scene::{Scene, coordinates};
+use super::super::scene::Scene;
 use super::super::{Shelf, faces, shape, window};
 use crate::field::Block;
 use crate::net::Multiplicities;
@@ -30,7 +30,7 @@ pub fn scenes(shelf: &Shelf) -> Vec<Scene> {
 /// far faces, where the other vertices are.
 fn ask_each_way(scene: &mut Scene) {
     let near = [[0, 0, 0], [2, 0, 0], [0, 2, 2], [3, 3, 3], [1, 3, 0], [2, 2, 1], [1, 2, 3]];
-    let point = |remainder| coordinates(scene.last_cell(), remainder, DIVISOR);
+    let point = |remainder| scene.at(scene.last_cell(), remainder, DIVISOR);
     let far = faces::WAYS.map(|axes| scene.moved_far(point([0; 3]), axes, DIVISOR));
     let inner_far = scene.moved_far(point([0, 1, 2]), &[0], DIVISOR);
     for point in near.map(point).into_iter().chain(far).chain([inner_far]) {
@@ -76,7 +76,7 @@ fn cancelled(v: Multiplicities) -> Scene {
     }
     let mut scene = Scene::new(v, block);
     for divisor in [2, 4, 22] {
-        scene.ask(coordinates(scene.last_cell(), [divisor / 2; 3], divisor), divisor);
+        scene.ask(scene.at(scene.last_cell(), [divisor / 2; 3], divisor), divisor);
     }
     assert_zero(&scene, 0);
     scene

@@ -1,6 +1,7 @@
 //! Placing calls, and valuing calls, exact and live, at the placings that they give and at broken ones.
 
 mod broken;
+mod moved;
 mod order;
 mod possible;
 
@@ -16,13 +17,13 @@ use crate::value::{Call, lent_value, value};
 use std::fmt;
 
 const FORMS: &str = "\
-# place HAS-NET V1 V2 V3 V4 HAS-BLOCK N1 N2 N3 X Y Z D placing K1 K2 K3 P R S L0 L1 L2 L3
-# place HAS-NET V1 V2 V3 V4 HAS-BLOCK N1 N2 N3 X Y Z D refused NUMBER PLACE
-# value HAS-NET V1 V2 V3 V4 HAS-BLOCK N1 N2 N3 NET C U K1 K2 K3 P R S L0 L1 L2 L3 answer N U DENOMINATOR
-# value HAS-NET V1 V2 V3 V4 HAS-BLOCK N1 N2 N3 NET C U K1 K2 K3 P R S L0 L1 L2 L3 refused NUMBER PLACE
-# live-value HAS-NET V1 V2 V3 V4 HAS-BLOCK N1 N2 N3 NET C U K1 K2 K3 P R S L0 L1 L2 L3 FLAG both BITS BITS
-# live-value HAS-NET V1 V2 V3 V4 HAS-BLOCK N1 N2 N3 NET C U K1 K2 K3 P R S L0 L1 L2 L3 FLAG shift BITS
-# live-value HAS-NET V1 V2 V3 V4 HAS-BLOCK N1 N2 N3 NET C U K1 K2 K3 P R S L0 L1 L2 L3 FLAG refused NUMBER PLACE
+# place UNIT X Y Z D placing K1 K2 K3 P R S L0 L1 L2 L3
+# place UNIT X Y Z D refused NUMBER PLACE
+# value UNIT NET C U K1 K2 K3 P R S L0 L1 L2 L3 answer N U DENOMINATOR
+# value UNIT NET C U K1 K2 K3 P R S L0 L1 L2 L3 refused NUMBER PLACE
+# live-value UNIT NET C U K1 K2 K3 P R S L0 L1 L2 L3 FLAG both BITS BITS
+# live-value UNIT NET C U K1 K2 K3 P R S L0 L1 L2 L3 FLAG shift BITS
+# live-value UNIT NET C U K1 K2 K3 P R S L0 L1 L2 L3 FLAG refused NUMBER PLACE
 ";
 
 const WORDS: &str = "\
@@ -103,11 +104,12 @@ fn place_line(case: &Case) -> String {
 }
 
 pub fn shapes() -> Vec<Multiplicities> {
-    [possible::shapes(), broken::shapes(), order::shapes()].concat()
+    [possible::shapes(), broken::shapes(), order::shapes(), moved::shapes()].concat()
 }
 
 pub fn scenes(shelf: &Shelf) -> Vec<Placings> {
-    [possible::scenes(shelf), broken::scenes(), order::scenes(shelf)].into_iter().flatten().collect()
+    let all = [possible::scenes(shelf), broken::scenes(), order::scenes(shelf), moved::scenes()];
+    all.into_iter().flatten().collect()
 }
 
 /// The file of these scenes.

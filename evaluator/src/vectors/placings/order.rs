@@ -10,7 +10,7 @@ use crate::net::Multiplicities;
 use crate::placing::{Placing, place};
 use crate::point::largest_divisor;
 
-const PLACING_CHECKS: [u8; 5] = [21, 22, 10, 11, 12];
+pub const PLACING_CHECKS: [u8; 5] = [21, 22, 10, 11, 12];
 /// Those of the live call; the exact one has no 15.
 const VALUING_CHECKS: [u8; 8] = [21, 22, 17, 15, 4, 9, 13, 23];
 
@@ -71,7 +71,7 @@ fn valuings(scene: &Scene, pair: [u8; 2]) -> Vec<Valuing> {
 
 /// All zeros, as a refused placing call answers in C; and the placing of a low corner with an axis that comes twice, no
 /// divisor, one that is too large, a cell outside, the higher axis first, and remainders of a far face.
-fn broken(placing: Placing, too_large: u32) -> [Placing; 7] {
+pub fn broken(placing: Placing, too_large: u32) -> [Placing; 7] {
     let Placing { cell: [k1, k2, k3], weights: [divisor, ..], .. } = placing;
     [
         Placing { cell: [0; 3], order: [0; 3], weights: [0; 4] },

@@ -1,7 +1,7 @@
 //! Points in each tetrahedron, with each tie and on far faces: each is placed, and its placing valued.
 
 use super::super::damage::inner_exchanged;
-use super::super::scene::{Scene, coordinates};
+use super::super::scene::Scene;
 use super::super::{Shelf, faces, points, shape, window};
 use super::Placings;
 use crate::field::Block;
@@ -63,10 +63,10 @@ fn every_way() -> Scene {
     let mut scene = Scene::new(quadratic(), Block::random(sizes, &mut Random::new(14)));
     let cells = [scene.first_cell(), scene.last_cell()];
     for (number, remainder) in REMAINDERS.into_iter().enumerate() {
-        scene.ask(coordinates(cells[number % 2], remainder, divisor), divisor);
+        scene.ask(scene.at(cells[number % 2], remainder, divisor), divisor);
     }
     for axes in faces::WAYS {
-        let point = coordinates(scene.first_cell(), [1, 3, 2], divisor);
+        let point = scene.at(scene.first_cell(), [1, 3, 2], divisor);
         scene.ask(scene.moved_far(point, axes, divisor), divisor);
     }
     scene
@@ -79,9 +79,9 @@ fn ask_by_turns(scene: &mut Scene) {
     for (number, remainder) in REMAINDERS.into_iter().enumerate() {
         let divisor = [live_largest, largest, live_largest + 1][number % 3];
         let remainder = remainder.map(|quarters| quarters * divisor / 4);
-        scene.ask(coordinates(scene.last_cell(), remainder, divisor), divisor);
+        scene.ask(scene.at(scene.last_cell(), remainder, divisor), divisor);
     }
-    let low = coordinates(scene.last_cell(), [0; 3], 1);
+    let low = scene.at(scene.last_cell(), [0; 3], 1);
     for axes in [faces::WAYS[1], faces::WAYS[4], faces::WAYS[6]] {
         scene.ask(scene.moved_far(low, axes, 1), 1);
     }

@@ -10,7 +10,7 @@ use crate::Outcome;
 use crate::answers::Handed;
 use evaluator::net::Multiplicities;
 use evaluator::random::Random;
-use evaluator::unit::{Sizes, Unit};
+use evaluator::unit::{Origin, Sizes, Unit};
 
 /// How a case is made.
 #[derive(Clone, Copy)]
@@ -124,6 +124,14 @@ pub fn break_sizes(n: &mut [u16; 3], random: &mut Random) {
     }
 }
 
+/// On each axis 0, next to it, at either end of its 16 bits, near 0, or any.
+pub fn origin(random: &mut Random) -> Origin {
+    [0; 3].map(|_: i16| {
+        let (near, any) = (random.between(0, 200) as i16 - 100, random.below(1 << 16) as u16 as i16);
+        pick(random, &[0, 0, 1, -1, i16::MIN, i16::MAX, near, any])
+    })
+}
+
 /// Bytes for flags that are not set.
 pub fn absent(random: &mut Random) -> [u8; 2] {
     [0; 2].map(|_: u8| pick(random, &[0, 2, 88, 255]))
@@ -131,7 +139,7 @@ pub fn absent(random: &mut Random) -> [u8; 2] {
 
 /// Flags and values that may or may not be within the limits.
 pub fn unit(random: &mut Random) -> Handed {
-    let mut unit = Unit::EMPTY.with_net(shape(random)).with_block(sizes([1; 3], random));
+    let mut unit = Unit::EMPTY.with_net(shape(random)).with_block(sizes([1; 3], random), origin(random));
     if random.below(3) == 0 {
         break_multiplicities(&mut unit.v, random);
     }
@@ -149,5 +157,6 @@ pub fn any_bytes(random: &mut Random) -> Handed {
         pick(random, &[1, any])
     });
     let v = [0; 4].map(|_: u8| random.below(256) as u8);
-    Handed::of(flags, v, [0; 3].map(|_: u16| random.below(65536) as u16))
+    let [n, o] = [0; 2].map(|_: u16| [0; 3].map(|_: u16| random.below(65536) as u16));
+    Handed::of(flags, v, n, o.map(|o| o as i16))
 }

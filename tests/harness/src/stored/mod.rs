@@ -81,7 +81,7 @@ impl<'a> Words<'a> {
         let has_net = self.number()?;
         let v = self.numbers()?;
         let has_block = self.number()?;
-        Ok(Handed::of([has_net, has_block], v, self.numbers()?))
+        Ok(Handed::of([has_net, has_block], v, self.numbers()?, self.numbers()?))
     }
 
     pub fn refusal(&mut self) -> Outcome<Refusal> {

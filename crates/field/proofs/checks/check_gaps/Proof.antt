@@ -5,15 +5,15 @@ use Prim.Native.Nat.{_+_, _-_, _≤_, ℕ}
 use native.Mathlib.Nat.{le-antisymm}
 use native.Mathlib.Numerals.{add-one}
 use native.Mathlib.Omega.{arith}
-use borrow.Author.Needs.{needs, sfits-of}
+use borrow.Author.Needs.{needs}
 use lib.IntN.{ℤ}
-use mir.Facts.{toZ-ofZ}
 use denote.Ref.{now}
 use Rattle.sums.specs.Search.{Found, at, first, nowhere, orElse}
 use Rattle.unit.specs.Checks.{andThen, refusal, refuseAt}
 use Rattle.unit.specs.Gaps.{uncertainGap}
 use Rattle.unit.specs.declared.Checked.{Checked}
 use Rattle.unit.specs.declared.Checked.the-variants.{Passed, Stopped}
+use Rattle.field.proofs.Twos.{read-back}
 use Rattle.field.proofs.checks.check_gaps.Statement.{statement}
 use Rattle.field.specs.File.{correction, uncertainty}
 use Rattle.field.specs.Load.{gapCheck}
@@ -78,7 +78,7 @@ loop-again c =
       omega arith,
       c .and-then .ensures
           ∙ joined-is (l .i) (correction file) (uncertainty file) _ _ _ _
-          (toZ-ofZ (sfits-of (k .correction-at .ok)) ∙ k .correction-at .ensures)
+          (read-back (k .correction-at .ok) (k .correction-at .ensures))
           (u .uncertainty-at .ensures) (l .inv .1) (c .before .check-gap .ensures),
     )
 

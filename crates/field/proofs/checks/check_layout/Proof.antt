@@ -12,7 +12,7 @@ use Rattle.unit.proofs.Limits.{sizes-limits}
 use Rattle.unit.specs.Unit.{sizesAllowed}
 use Rattle.field.proofs.Entries.{counted}
 use Rattle.field.proofs.checks.check_layout.Statement.{statement}
-use Rattle.field.specs.File.{entryCount, fileLength, size1, size2, size3}
+use Rattle.field.specs.File.{entryCount, fileLength, headerLength, size1, size2, size3}
 use Rattle.field.specs.Load.{layoutChecks}
 use Rattle.field.proofs.checks.check_layout.Tie as tie
 
@@ -26,7 +26,7 @@ module _ (c : tie.After-sizes-allowed) where
       let sizes = c .before .read .ensures in
       c .sizes-allowed .ensures ∙ simp (sizes .0, sizes .1, sizes .2)
 
-  long : 6 ≤ length file
+  long : headerLength ≤ length file
   long = omega arith
 
 -- after the entries were counted
@@ -48,7 +48,9 @@ stop-requires c κs = search needs
 
 returns : tie.Need-returns
 unfolding layoutChecks
-returns c = simp (lt-ltb _ _ (c .before .if1 .taken)) (c .stop .ensures)
+returns c =
+    let bytes = length (now (c .before .before .before .args .file)) in
+    simp (lt-ltb bytes headerLength (omega arith)) (c .stop .ensures)
 
 read-requires : tie.Need-read-requires
 read-requires c κs = search needs

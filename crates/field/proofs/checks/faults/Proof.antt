@@ -1,16 +1,16 @@
 -- Where no bit is set so far, no entry before the i-th has a fault.
 use mathlib.Core.Bool.{false}
 use mathlib.Core.List.{List}
-use mathlib.Core.Path.{_∙_, _≡_}
+use mathlib.Core.Path.{_≡_}
 use Prim.Native.Nat.{_-_, _<_, _≤_, ℕ}
 use native.Mathlib.Nat.{le-antisymm}
 use native.Mathlib.Omega.{arith}
 use borrow.Author.Count.{below-more}
-use borrow.Author.Needs.{needs, sfits-of}
+use borrow.Author.Needs.{needs}
 use lib.Bits.{and-le-l, and-le-r, bitOr, or-add-and}
 use lib.IntN.{ℤ}
-use mir.Facts.{toZ-ofZ}
 use Rattle.unit.specs.Gaps.{uncertainGap}
+use Rattle.field.proofs.Twos.{read-back}
 use Rattle.field.proofs.checks.faults.Statement.{statement}
 use Rattle.field.specs.File.{correction, uncertainty}
 use Rattle.field.proofs.checks.faults.Tie as tie
@@ -62,7 +62,7 @@ loop-again c =
       omega arith,
       λ e.
           let none = no-bits (l .all) (c .fault .result) e in
-          let read = toZ-ofZ (sfits-of (k .correction-at .ok)) ∙ k .correction-at .ensures in
+          let read = read-back (k .correction-at .ok) (k .correction-at .ensures) in
           below-more _ (l .i) (l .inv .1 (none .0))
           (sound _ (l .i) _ _ read (u .uncertainty-at .ensures) (c .fault .ensures (none .1))),
     )

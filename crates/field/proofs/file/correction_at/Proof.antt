@@ -1,30 +1,22 @@
--- The number at entry i of the first array, by its 16 bits.
-use mathlib.Core.Path.{_∙_, ap}
-use borrow.Author.Needs.{needs, sfits-of}
-use mir.Facts.{toZ-ofZ}
+-- The number at entry i of the first array.
+use borrow.Author.Needs.{needs}
+use Rattle.field.proofs.Twos.{read-back}
 use Rattle.field.proofs.file.correction_at.Statement.{statement}
-use Rattle.field.specs.File.{correction, signed}
+use Rattle.field.specs.File.{correction}
 use Rattle.field.proofs.file.correction_at.Tie as tie
 
-mul-word-at : tie.Need-mul-word-at
-mul-word-at c = search needs
+mul-signed-at : tie.Need-mul-signed-at
+mul-signed-at c = search needs
 
-add-word-at : tie.Need-add-word-at
-add-word-at c = search needs
+add-signed-at : tie.Need-add-signed-at
+add-signed-at c = search needs
 
-word-at-requires : tie.Need-word-at-requires
-word-at-requires c κs = search needs
-
-to-signed-requires : tie.Need-to-signed-requires
-to-signed-requires c κs = search needs
+signed-at-requires : tie.Need-signed-at-requires
+signed-at-requires c κs = search needs
 
 returns : tie.Need-returns
 unfolding correction
-returns c =
-    toZ-ofZ (sfits-of (c .to-signed .ok))
-    ∙ c .to-signed .ensures
-    ∙ ap signed (c .before .word-at .ensures)
+returns c = read-back (c .signed-at .ok) (c .signed-at .ensures)
 
 pub correction-at-spec : {M : Type 1} → statement M
-correction-at-spec =
-    tie.close (tie.spec mul-word-at add-word-at word-at-requires to-signed-requires returns)
+correction-at-spec = tie.close (tie.spec mul-signed-at add-signed-at signed-at-requires returns)

@@ -1,6 +1,6 @@
 //! One point call, exact or live, and how a sound one is made.
 
-use super::super::{absent, long_enough, pick, sizes};
+use super::super::{absent, long_enough, origin, pick, sizes};
 use super::Asked;
 use crate::Outcome;
 use crate::answers::{Answered, Handed, number};
@@ -12,7 +12,7 @@ use crate::shelf::{LentNet, Shelf};
 use evaluator::field::{Block, NEVER_MEASURED};
 use evaluator::net::Multiplicities;
 use evaluator::placing::Placing;
-use evaluator::point::Call;
+use evaluator::point::{Call, coordinate};
 use evaluator::random::Random;
 use evaluator::unit::{Sizes, Unit};
 
@@ -22,11 +22,11 @@ pub struct Case {
     pub net_length: usize,
     pub corrections: Vec<i16>,
     pub uncertainties: Vec<u16>,
-    /// k on each axis: on a far face the last one.
+    /// k on each axis, counted from the block's first entry: on a far face the last one.
     pub cube: [usize; 3],
     /// u on each axis: on a far face the divisor.
     pub remainder: [u32; 3],
-    pub coordinates: [u32; 3],
+    pub coordinates: [i32; 3],
     pub divisor: u32,
     /// Of a live call, for the uncertainty.
     pub flag: Option<u8>,
@@ -106,9 +106,9 @@ impl Case {
         }
         corrections.resize(long_enough(sizes.entries(), random), NEVER_MEASURED);
         uncertainties.resize(long_enough(sizes.entries(), random), u16::MAX);
-        let coordinate = |b: usize| (cube[b] as u32).saturating_mul(divisor).saturating_add(remainder[b]);
-        let coordinates = [0, 1, 2].map(coordinate);
-        let handed = Handed { unit: Unit::EMPTY.with_net(v).with_block(sizes), absent: absent(random) };
+        let unit = Unit::EMPTY.with_net(v).with_block(sizes, origin(random));
+        let coordinates = [0, 1, 2].map(|b| coordinate(unit.o[b], cube[b], remainder[b].into(), divisor));
+        let handed = Handed { unit, absent: absent(random) };
         let (net, net_length) = (LentNet::defined(v), long_enough(v.places(), random));
         let flag = asked.flag(random);
         Case { handed, net, net_length, corrections, uncertainties, cube, remainder, coordinates, divisor, flag }

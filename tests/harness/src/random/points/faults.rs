@@ -7,7 +7,7 @@ use crate::shelf::Shelf;
 use evaluator::field::NEVER_MEASURED;
 use evaluator::interpolation::quadruples;
 use evaluator::net::Multiplicities;
-use evaluator::point::LARGEST_DIVISOR;
+use evaluator::point::{LARGEST_DIVISOR, coordinate};
 use evaluator::random::Random;
 use evaluator::{live, point};
 
@@ -91,26 +91,35 @@ fn needed_entry(case: &Case, random: &mut Random) -> usize {
     j[0] + n1 * (j[1] + n2 * j[2])
 }
 
-/// The coordinate of the far face of an axis.
-fn far(case: &Case, axis: usize) -> u64 {
-    u64::from(case.handed.unit.n[axis]) * u64::from(case.divisor)
+/// What is so much past an entry of an axis.
+fn past(case: &Case, axis: usize, entry: usize, more: i64) -> i32 {
+    coordinate(case.handed.unit.o[axis], entry, more, case.divisor)
 }
 
-/// On one axis just below the window's room, just past the far face, or far away; or near the far face of a block that
-/// has no room for the window.
+/// What is so much past the far face of an axis.
+fn past_far(case: &Case, axis: usize, more: i64) -> i32 {
+    past(case, axis, case.handed.unit.n[axis].into(), more)
+}
+
+/// On one axis just below the window's room, at the origin or before it, just past the far face, or far away, as far
+/// before the origin as the point is past it, or in a cell with its cell's low bits; or near the far face of a block
+/// that has no room for the window.
 fn outside(case: &mut Case, random: &mut Random) {
     let axis = random.between(0, 2);
     let extent = case.net.of.extents()[axis];
-    let divisor = u64::from(case.divisor.max(1));
-    let below = (extent as u64 - 1) * divisor - 1;
-    let past = far(case, axis) + 1;
-    let mut coordinate = pick(random, &[0, below, past, past, past + divisor - 1, u64::from(u32::MAX)]);
     if random.below(4) == 0 {
         case.handed.unit.n[axis] = random.between(1, extent - 1) as u16;
-        let far = far(case, axis);
-        coordinate = pick(random, &[far, far, far.saturating_sub(1), far + 1, case.coordinates[axis].into()]);
+        let [below, far, above] = [-1, 0, 1].map(|more| past_far(case, axis, more));
+        case.coordinates[axis] = pick(random, &[far, far, below, above, case.coordinates[axis]]);
+        return;
     }
-    case.coordinates[axis] = coordinate.min(u32::MAX.into()) as u32;
+    let (cube, remainder, whole) = (case.cube[axis], i64::from(case.remainder[axis]), i64::from(case.divisor));
+    let before = [past(case, axis, extent - 1, -1), past(case, axis, 0, 0), past(case, axis, 0, -1)];
+    let after = [1, 1, whole].map(|more| past_far(case, axis, more));
+    let mirrored = past(case, axis, 0, -(cube as i64 * whole + remainder));
+    let same_bits = past(case, axis, cube + (1 << random.between(6, 20)), remainder);
+    let away = [mirrored, same_bits, i32::MIN, i32::MAX];
+    case.coordinates[axis] = pick(random, &[&before[..], &after, &away].concat());
 }
 
 /// The share of one needed entry is another at one local place of the point's tetrahedron.
@@ -138,9 +147,10 @@ pub fn free(asked: Asked, random: &mut Random) -> Case {
         case.handed = unit(random);
     }
     for axis in 0..3 {
-        let (own, any) = (case.coordinates[axis], random.below(1 << 32) as u32);
-        let far = far(&case, axis).min(u32::MAX.into()) as u32;
-        case.coordinates[axis] = pick(random, &[own, own, own, far, far.saturating_add(1), 0, any, u32::MAX]);
+        let (own, any) = (case.coordinates[axis], random.below(1 << 32) as u32 as i32);
+        let ends = [past(&case, axis, 0, -1), past_far(&case, axis, 0), past_far(&case, axis, 1)];
+        let all = [&[own; 5][..], &ends, &[0, any, i32::MIN, i32::MAX]].concat();
+        case.coordinates[axis] = pick(random, &all);
     }
     case
 }

@@ -1,11 +1,13 @@
 //! Random points, of the exact or of the live call: over defined nets and copies of the factory's, with faults,
-//! over damaged nets, and over gaps; in two calls; and placings that points have or nearly have.
+//! over damaged nets, over gaps, and beside blocks at the origin 0; in two calls; and placings that points have or
+//! nearly have.
 
 mod case;
 mod copied;
 mod damage;
 mod faults;
 mod gaps;
+mod moved;
 mod placings;
 mod spread;
 
@@ -19,6 +21,7 @@ pub use copied::over_copied;
 use evaluator::point::Call;
 use evaluator::random::Random;
 use evaluator::{lent, live, point};
+pub use moved::{moved, placed_moved};
 pub use placings::valued;
 pub use spread::Spread;
 

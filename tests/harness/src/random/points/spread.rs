@@ -3,17 +3,32 @@
 use super::case::Case;
 use crate::Outcome;
 use std::collections::BTreeMap;
+use std::fmt::Display;
 
 /// How many points were in each tetrahedron, on faces between tetrahedra, at vertices, and on far faces, their edges
-/// and their corner; and how many over nets of each degree.
+/// and their corner; how many over nets of each degree; and on how many axes a block began before 0, there or after it.
 #[derive(Default)]
 pub struct Spread {
     parts: BTreeMap<String, usize>,
     degrees: BTreeMap<usize, usize>,
+    origins: BTreeMap<&'static str, usize>,
 }
 
 /// Six tetrahedra, the faces between them, vertices, and far faces, edges and corners.
 const PARTS: usize = 11;
+const DEGREES: usize = 9;
+/// 0, before and after it, and the two ends.
+const ORIGINS: usize = 5;
+
+fn origin(o: i16) -> &'static str {
+    match o {
+        i16::MIN => "-32768",
+        ..0 => "below 0",
+        0 => "0",
+        i16::MAX => "32767",
+        _ => "above 0",
+    }
+}
 
 /// The axes by remainder, or that the point is in no tetrahedron's inside.
 fn part(remainder: [u32; 3], divisor: u32) -> String {
@@ -31,21 +46,27 @@ fn part(remainder: [u32; 3], divisor: u32) -> String {
     }
 }
 
+fn listed<T: Display>(counts: &BTreeMap<T, usize>) -> String {
+    counts.iter().map(|(of, count)| format!("{of}: {count}")).collect::<Vec<_>>().join(", ")
+}
+
 impl Spread {
     pub fn count(&mut self, case: &Case) {
         *self.parts.entry(part(case.remainder, case.divisor)).or_default() += 1;
         *self.degrees.entry(case.net.of.degree()).or_default() += 1;
+        for o in case.handed.unit.o {
+            *self.origins.entry(origin(o)).or_default() += 1;
+        }
     }
 
-    /// Prints the counts, and fails where a part or a degree has none.
+    /// Prints the counts, and fails where a part, a degree or a kind of origin has none.
     pub fn finish(&self) -> Outcome {
-        let parts: Vec<String> = self.parts.iter().map(|(part, count)| format!("{part}: {count}")).collect();
-        let degrees: Vec<String> = self.degrees.iter().map(|(degree, count)| format!("{degree}: {count}")).collect();
-        println!("answered by place: {}; by degree {}", parts.join(", "), degrees.join(", "));
-        if parts.len() == PARTS && degrees.len() == 9 {
+        let [parts, degrees, origins] = [listed(&self.parts), listed(&self.degrees), listed(&self.origins)];
+        println!("answered by place: {parts}; by degree {degrees}; by origin of an axis {origins}");
+        if [self.parts.len(), self.degrees.len(), self.origins.len()] == [PARTS, DEGREES, ORIGINS] {
             Ok(())
         } else {
-            Err("a place or a degree has no point".to_string())
+            Err("a place, a degree or a kind of origin has no point".to_string())
         }
     }
 }
