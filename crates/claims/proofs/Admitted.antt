@@ -14,7 +14,7 @@ use Rattle.unit.proofs.Limits.{block-limits}
 use Rattle.unit.specs.Unit.{netOf}
 use Rattle.placing.proofs.Cells.{coordinate-inside, inside-axes}
 use Rattle.placing.proofs.Placed.{divisor-accepted, equipped, point-accepted}
-use Rattle.placing.specs.Place.{cellCheck, insideCheck, signCheck, pointChecks}
+use Rattle.placing.specs.Place.{cellCheck, insideCheck, pointChecks, signCheck}
 use Rattle.placing.specs.Placing.{cells, distance, fromOrigin, insideOn, located, sizes}
 use Rattle.claims.specs.Demands.{Admitted}
 use Rattle.claims.specs.Points.{CoordinateInside}

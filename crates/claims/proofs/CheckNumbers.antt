@@ -27,7 +27,7 @@ use Rattle.field.specs.File.{correction, entryCount, fileLength, headerLength, 
 use Rattle.field.specs.File.{uncertainty}
 use Rattle.field.specs.Load.{gapCheck, layoutChecks, limitCheck, loadChecks}
 use Rattle.placing.specs.Place.{cellCheck, divisorChecks, insideCheck, lentChecks, limit, liveCheck}
-use Rattle.placing.specs.Place.{liveLimit, signCheck, pointChecks, roomChecks, scale, unitChecks}
+use Rattle.placing.specs.Place.{liveLimit, pointChecks, roomChecks, scale, signCheck, unitChecks}
 use Rattle.placing.specs.Placing.{cells, inside, placing, placingCell, sizes, weightSum}
 use Rattle.placing.specs.Possible.{livePlacingChecks, placedChecks, placingChecks, possible}
 use Rattle.placing.specs.declared.Placing.{Placing}

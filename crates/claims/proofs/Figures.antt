@@ -14,8 +14,8 @@ use lib.Ieee.{ofBits, ofInt}
 use Rattle.field.specs.Encoding.{bits, encoding, littleEndian}
 use Rattle.field.specs.File.{correction, signed, uncertainty, word}
 use Rattle.field.specs.Load.{layoutChecks, loadAnswer, loadChecks}
-use Rattle.placing.specs.Place.{cellCheck, divisorChecks, insideCheck, lentChecks, liveCheck, signCheck}
-use Rattle.placing.specs.Place.{pointChecks, unitChecks}
+use Rattle.placing.specs.Place.{cellCheck, divisorChecks, insideCheck, lentChecks, liveCheck, pointChecks}
+use Rattle.placing.specs.Place.{signCheck, unitChecks}
 use Rattle.placing.specs.Placing.{fromOrigin, inside, located, placing, rankAxes, withThird}
 use Rattle.placing.specs.Possible.{areAxes, divisorPossible, facesInLast, placedChecks, placingChecks}
 use Rattle.placing.specs.Possible.{possible, remainderOn, tiesInOrder}

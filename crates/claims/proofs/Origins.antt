@@ -1,7 +1,7 @@
 -- What a point's answer takes up of its coordinates and of the origin: their difference on each axis.
 use mathlib.Core.Bool.{_&&_, and-false, false}
 use mathlib.Core.Logic.{_⊎_, inl, inr}
-use mathlib.Core.Path.{_∙_, _≡_, ap, refl}
+use mathlib.Core.Path.{_≡_, refl}
 use Prim.Native.Nat.{_+_, ℕ}
 use native.Mathlib.Omega.{arith}
 use lib.IntN.{_*ℤ_, _+ℤ_, _-ℤ_, negsuc, pos, ℤ}
@@ -15,38 +15,32 @@ use Rattle.net.specs.Build.{buildAnswer}
 use Rattle.net.specs.Order.{buildChecks}
 use Rattle.inspection.specs.Inspect.{inspectAnswer, inspectChecks}
 use Rattle.factory.specs.Factory.{factoryAnswer, factoryChecks, factoryShape}
-use Rattle.placing.specs.Place.{cellCheck, insideCheck, lentChecks, signCheck, placeAnswer, pointChecks}
+use Rattle.placing.specs.Place.{cellCheck, insideCheck, lentChecks, placeAnswer, pointChecks, signCheck}
 use Rattle.placing.specs.Place.{unitChecks}
 use Rattle.placing.specs.Placing.{blockCells, blockPlacing, fromOrigin, placing, sizes}
 use Rattle.placing.specs.Possible.{facesInLast, livePlacingChecks, placedChecks, placingChecks, possible}
 use Rattle.point.specs.Answer.{pointAnswer, valuingAnswer}
 use Rattle.live.specs.Answer.{liveAnswer, liveChecks, liveValuingAnswer, liveValuingChecks}
 use Rattle.claims.specs.Origins.{AtZero, BeforeOrigin, BlockKept, EmptyAtZero, Moved, OriginZero}
-use Rattle.claims.specs.Origins.{PlacingStays, SameBlock, moved, movedBy}
+use Rattle.claims.specs.Origins.{PlacingStays, SameBlock, movedBy, shifted}
 
 -- ---- an origin of 0
 
-from-zero : (x : ℤ) (D : ℕ) → fromOrigin x (pos 0) D ≡ x
+read-zero : (x : ℕ) {o : ℤ} (D : ℕ) → o ≡ pos 0 → fromOrigin (pos x) o D ≡ pos x
 unfolding fromOrigin
-from-zero x D = same (is-diff (own x) (is-mul (is-pos 0) (is-pos D))) (own x) (omega arith)
+read-zero x D e =
+    rw e (same (is-diff (is-pos x) (is-mul (is-pos 0) (is-pos D))) (is-pos x) (omega arith))
 
 module _ (u : Unit) (zero : AtZero u) (x y z D : ℕ) where
-  read1 : fromOrigin (pos x) (u .o1) D ≡ pos x
-  read1 = ap (λ (o : ℤ). fromOrigin (pos x) o D) (zero .first) ∙ from-zero (pos x) D
-
-  read2 : fromOrigin (pos y) (u .o2) D ≡ pos y
-  read2 = ap (λ (o : ℤ). fromOrigin (pos y) o D) (zero .second) ∙ from-zero (pos y) D
-
-  read3 : fromOrigin (pos z) (u .o3) D ≡ pos z
-  read3 = ap (λ (o : ℤ). fromOrigin (pos z) o D) (zero .third) ∙ from-zero (pos z) D
-
   zero-inside : insideCheck u (pos x) (pos y) (pos z) D ≡ cellCheck (netOf u) (sizes u) (blockCells u x y z D)
   unfolding insideCheck signCheck
-  zero-inside = rw (read1, read2, read3) refl
+  zero-inside =
+      rw (read-zero x D (zero .first), read-zero y D (zero .second), read-zero z D (zero .third)) refl
 
   zero-placing : placing u (pos x) (pos y) (pos z) D ≡ blockPlacing u x y z D
   unfolding placing
-  zero-placing = rw (read1, read2, read3) refl
+  zero-placing =
+      rw (read-zero x D (zero .first), read-zero y D (zero .second), read-zero z D (zero .third)) refl
 
 pub origin-zero : OriginZero
 unfolding placeAnswer pointAnswer liveAnswer liveChecks pointChecks
@@ -63,7 +57,7 @@ empty-at-zero = record { first = refl; second = refl; third = refl }
 
 -- ---- another origin
 
-from-moved : (x o d : ℤ) (D : ℕ) → fromOrigin (moved x d D) (o +ℤ d) D ≡ fromOrigin x o D
+from-moved : (x o d : ℤ) (D : ℕ) → fromOrigin (shifted x d D) (o +ℤ d) D ≡ fromOrigin x o D
 unfolding fromOrigin
 from-moved x o d D =
     same
@@ -75,19 +69,20 @@ module _ (u : Unit) (d1 d2 d3 x y z : ℤ) (D : ℕ) where
   abbrev there : Unit
   there = movedBy u d1 d2 d3
 
-  inside-moved : insideCheck there (moved x d1 D) (moved y d2 D) (moved z d3 D) D ≡ insideCheck u x y z D
+  inside-moved : insideCheck there (shifted x d1 D) (shifted y d2 D) (shifted z d3 D) D
+      ≡ insideCheck u x y z D
   unfolding insideCheck signCheck
   inside-moved =
       rw (from-moved x (u .o1) d1 D, from-moved y (u .o2) d2 D, from-moved z (u .o3) d3 D) refl
 
-  placing-moved : placing there (moved x d1 D) (moved y d2 D) (moved z d3 D) D ≡ placing u x y z D
+  placing-moved : placing there (shifted x d1 D) (shifted y d2 D) (shifted z d3 D) D ≡ placing u x y z D
   unfolding placing
   placing-moved =
       rw (from-moved x (u .o1) d1 D, from-moved y (u .o2) d2 D, from-moved z (u .o3) d3 D) refl
 
-pub moved-answers : Moved
+pub moved : Moved
 unfolding placeAnswer pointAnswer liveAnswer liveChecks pointChecks lentChecks unitChecks hasNet hasBlock
-moved-answers u d1 d2 d3 x y z D =
+moved u d1 d2 d3 x y z D =
     let inside = inside-moved u d1 d2 d3 x y z D in
     let placed = placing-moved u d1 d2 d3 x y z D in (
       rw (inside, placed) refl,

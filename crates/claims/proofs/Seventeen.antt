@@ -4,15 +4,14 @@ use mathlib.Core.Bool.{Bool, _||_, false, not, true}
 use mathlib.Core.List.{List}
 use mathlib.Core.Logic.{_↔_}
 use mathlib.Core.Path.{_∙_, _≡_, refl, sym}
-use Prim.Native.Nat.{_*_, _<_, _^_, _≤_, ℕ}
-use native.Mathlib.Nat.{mul-le-mul}
+use Prim.Native.Nat.{_<_, _^_, _≤_, ℕ}
 use native.Mathlib.Omega.{arith}
 use lib.Dec.{ltb}
-use lib.IntN.{_*ℤ_, _+ℤ_, natAbs, pos, ℤ}
+use lib.IntN.{_*ℤ_, _+ℤ_, pos, ℤ}
 use lib.ListN.{length}
 use lib.Signed.{mag, natAbs-le}
 use Rattle.sums.proofs.Search.{false-true}
-use Rattle.sums.proofs.Signed.{abs-add, abs-mul, mag-le}
+use Rattle.sums.proofs.Signed.{abs-add, mag-le}
 use Rattle.spline.specs.Box.{places, width}
 use Rattle.spline.specs.Multiplicities.{degree}
 use Rattle.spline.specs.Place.{a1, a2, a3}
@@ -24,6 +23,7 @@ use Rattle.unit.specs.declared.Checked.the-variants.{Passed, Stopped}
 use Rattle.unit.specs.declared.Unit.{Unit}
 use Rattle.placing.proofs.FieldTests.{is-possible, possible-is}
 use Rattle.placing.proofs.GivenBack.{coordinate, distanceOn, distances-small, given-back}
+use Rattle.placing.proofs.Origin.{origin-small}
 use Rattle.placing.proofs.PlacedPossible.{placed-possible}
 use Rattle.placing.proofs.Placed.{place-placed, point-accepted}
 use Rattle.placing.specs.Place.{liveCheck, liveLimit, roomChecks, scale, unitChecks}
@@ -158,8 +158,7 @@ coordinate-fits : (t : ℕ) (o : ℤ) (D : ℕ) → t ≤ 262144 → D ≤ 4096 
     → mag (pos t +ℤ o *ℤ pos D) < 2 ^ 31
 coordinate-fits t o D near few fits =
     let size = abs-add (pos t) (o *ℤ pos D) in
-    let product = abs-mul o (pos D) in
-    let most : natAbs o * D ≤ 32768 * 4096 = mul-le-mul (natAbs-le o fits) few in
+    let shift = origin-small o D (natAbs-le o fits) few in
     omega (arith, mag-le (pos t +ℤ o *ℤ pos D))
 
 -- ---- the demands

@@ -90,8 +90,8 @@ movedBy u d1 d2 d3 = record {
 }
 
 -- a coordinate over D, moved by d entries
-abbrev pub moved : ℤ → ℤ → ℕ → ℤ
-moved x d D = x +ℤ d *ℤ pos D
+abbrev pub shifted : ℤ → ℤ → ℕ → ℤ
+shifted x d D = x +ℤ d *ℤ pos D
 
 -- A block that is moved answers the moved point as it did the old one: the placing call, the point call and
 -- the live call give the same, refusals included. That holds of all whole numbers, and so of all origins and
@@ -100,9 +100,9 @@ abbrev pub Moved : Type 0
 Moved =
     (u : Unit) (d1 d2 d3 : ℤ) (x y z : ℤ) (D : ℕ)
     → (let there = movedBy u d1 d2 d3 in
-    let x′ = moved x d1 D in
-    let y′ = moved y d2 D in
-    let z′ = moved z d3 D in
+    let x′ = shifted x d1 D in
+    let y′ = shifted y d2 D in
+    let z′ = shifted z d3 D in
     (placeAnswer there x′ y′ z′ D ≡ placeAnswer u x y z D)
     × ((net : List ℕ) (corrections : List ℤ) (uncertainties : List ℕ)
     → (pointAnswer there net corrections uncertainties x′ y′ z′ D

@@ -21,7 +21,7 @@ use Rattle.placing.proofs.FieldTests.{Possible}
 use Rattle.placing.proofs.Origin.{read-past}
 use Rattle.placing.proofs.Placed.{divisor-passes, equipped}
 use Rattle.placing.specs.Inner.Ranking.{Axes, o123, o132, o213, o231, o312, o321}
-use Rattle.placing.specs.Place.{cellCheck, insideCheck, signCheck, placeAnswer, pointChecks}
+use Rattle.placing.specs.Place.{cellCheck, insideCheck, placeAnswer, pointChecks, signCheck}
 use Rattle.placing.specs.Place.{unitChecks}
 use Rattle.placing.specs.Placing.{axisNumber, fromOrigin, insideOn, located, onAxes, placing, placingBy}
 use Rattle.placing.specs.Placing.{placingCell, rankAxes, sizes, weightSum, withThird}

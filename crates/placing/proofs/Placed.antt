@@ -18,7 +18,7 @@ use Rattle.unit.specs.declared.Refusal.{Refusal}
 use Rattle.unit.specs.declared.Unit.{Unit}
 use Rattle.placing.proofs.Origin.{NoneNegative, signs-passed}
 use Rattle.placing.specs.Place.{cellCheck, divisorChecks, insideCheck, lentChecks, limit, liveCheck}
-use Rattle.placing.specs.Place.{liveLimit, signCheck, placeAnswer, pointChecks, roomChecks, scale}
+use Rattle.placing.specs.Place.{liveLimit, placeAnswer, pointChecks, roomChecks, scale, signCheck}
 use Rattle.placing.specs.Place.{unitChecks}
 use Rattle.placing.specs.Placing.{cells, fromOrigin, inside, placing, sizes}
 use Rattle.placing.specs.declared.Placing.{Placing}

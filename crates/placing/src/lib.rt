@@ -9,7 +9,7 @@ ghost use Rattle.unit.specs.Unit.{netOf, hasBlock};
 ghost use Rattle.placing.specs.Inner.Reading.{farthest};
 ghost use Rattle.placing.specs.Placing.{blockCells, blockPlacing, fromOrigin, inside, insideOn};
 ghost use Rattle.placing.specs.Placing.{located, onAxes, placingOn, sizes};
-ghost use Rattle.placing.specs.Place.{cellCheck, lentChecks, signCheck, placeAnswer, unitChecks};
+ghost use Rattle.placing.specs.Place.{cellCheck, lentChecks, placeAnswer, signCheck, unitChecks};
 ghost use Rattle.placing.specs.declared.PlacingAnswer.the-variants.{Placed, Refused};
 use shape::Counts;
 use unit::Checked;

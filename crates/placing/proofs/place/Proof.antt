@@ -12,8 +12,8 @@ use Rattle.unit.specs.declared.Unit.{Unit}
 use Rattle.placing.proofs.Origin.{NoneNegative, ReadAs, alike, casts-down, read-as, signs-passed}
 use Rattle.placing.proofs.Placed.{DivisorAccepted, Equipped, divisor-accepted, equipped}
 use Rattle.placing.proofs.place.Statement.{statement}
-use Rattle.placing.specs.Place.{cellCheck, divisorChecks, insideCheck, signCheck, placeAnswer}
-use Rattle.placing.specs.Place.{pointChecks, unitChecks}
+use Rattle.placing.specs.Place.{cellCheck, divisorChecks, insideCheck, placeAnswer, pointChecks}
+use Rattle.placing.specs.Place.{signCheck, unitChecks}
 use Rattle.placing.specs.Placing.{blockCells, blockPlacing, fromOrigin, placing, sizes}
 use Rattle.placing.specs.declared.PlacingAnswer.{PlacingAnswer}
 use Rattle.placing.specs.declared.PlacingAnswer.the-variants.{Placed, Refused}
