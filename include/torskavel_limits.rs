@@ -1,7 +1,7 @@
 //! The limits and sizes of torskavel.rs, which gives them under its own name.
 
 /// The most bytes of code and constants of the archive.
-pub const MAX_CODE: usize = 24576;
+pub const MAX_CODE: usize = 28672;
 /// The most bytes of stack that a call takes, but for what memset and memcpy take.
 pub const MAX_STACK: usize = 12288;
 /// The most bytes of stack that `build`, `inspect` and `place` take.

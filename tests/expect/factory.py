@@ -1,11 +1,13 @@
 #!/usr/bin/env python3
-"""Writes the factory's table, the numbers of the net 2, 2, 2, 1, with the evaluator: a line for each row.
+"""Writes the factory's table, the numbers of the net 2, 2, 2, 1, with the evaluator: a line for each row, for
+the code and for the proofs.
 
 Run in the repository, after `cargo build --release --offline` in evaluator/, and again after `rt fmt`, which
-gives each number a line of its own:
+gives each number of the code a line of its own:
 
     python3 tests/expect/factory.py            writes crates/factory/src/table.rt
-    python3 tests/expect/factory.py --check    says whether it is current
+                                               and crates/factory_net/proofs/Numbers.antt
+    python3 tests/expect/factory.py --check    says whether they are current
 """
 import sys
 from pathlib import Path
@@ -14,24 +16,37 @@ sys.path.append(str(Path(__file__).resolve().parents[1]))
 from evaluator import ROOT, net, widths
 from stored import keep
 
-STORED = ROOT / "crates/factory/src/table.rt"
 SHAPE = (2, 2, 2, 1)
-HEAD = """\
+NUMBERS = net(SHAPE)
+CODE = """\
 // The numbers of the defined net of 2, 2, 2, 1, in index order: a block of lines is a layer z, a line a row y
 // of it, from x = 0. tests/expect/factory.py writes them, from what the evaluator computes.
 pub(crate) const TABLE: [u32; {}] = [
+{}];
+"""
+PROOFS = """\
+-- The numbers of the defined net of 2, 2, 2, 1, in index order, a line for each row y of a layer z, from x = 0.
+-- tests/expect/factory.py writes them, from what the evaluator computes.
+use mathlib.Core.List.{{List, [], _∷_}}
+use Prim.Native.Nat.{{ℕ}}
+
+unfoldable pub numbers : List ℕ
+numbers =
+{}    []
 """
 
 
-def table():
-    numbers, (w1, w2, w3) = net(SHAPE), widths(SHAPE)
-    lines = [HEAD.format(len(numbers))]
+def rows(remark, width, divided):
+    """A line for each row, its numbers of this width divided by these characters; a remark before each layer."""
+    w1, w2, w3 = widths(SHAPE)
+    lines = []
     for z in range(w3):
-        lines.append(f"    // z = {z}\n")
+        lines.append(f"    {remark} z = {z}\n")
         for y in range(w2):
-            row = numbers[w1 * (y + w2 * z) :][:w1]
-            lines.append("    " + ", ".join(f"{number:2}" for number in row) + ",\n")
-    return "".join(lines) + "];\n"
+            row = NUMBERS[w1 * (y + w2 * z) :][:w1]
+            lines.append("    " + divided.join(f"{number:{width}}" for number in row) + divided.rstrip() + "\n")
+    return "".join(lines)
 
 
-keep(STORED, table())
+keep(ROOT / "crates/factory/src/table.rt", CODE.format(len(NUMBERS), rows("//", 2, ", ")))
+keep(ROOT / "crates/factory_net/proofs/Numbers.antt", PROOFS.format(rows("--", 1, " ∷ ")))

@@ -3,31 +3,26 @@ use mathlib.Core.Bool.{false, true}
 use mathlib.Core.List.{List}
 use mathlib.Core.Path.{_≡_, refl}
 use Prim.Native.Nat.{ℕ}
-use native.Mathlib.Omega.{arith}
 use lib.IntN.{ℤ}
 use lib.ListN.{length}
-use Rattle.sums.specs.Fill.{filled}
+use Rattle.sums.specs.Fill.{filled, numberAt}
 use Rattle.sums.specs.Search.{at, nowhere}
 use Rattle.spline.specs.Multiplicities.{Multiplicities, degree}
 use Rattle.spline.specs.Place.{Axis}
 use Rattle.unit.specs.Checks.{refusal}
-use Rattle.unit.specs.Unit.{netOf}
+use Rattle.unit.specs.Unit.{netOf, sizes}
 use Rattle.unit.specs.declared.Checked.{Checked}
 use Rattle.unit.specs.declared.Checked.the-variants.{Passed, Stopped}
 use Rattle.unit.specs.declared.Refusal.{Refusal}
 use Rattle.unit.specs.declared.Unit.{Unit}
-use Rattle.placing.proofs.Placed.{Lent, PointAccepted}
+use Rattle.limits.proofs.Accepted.{Lent}
+use Rattle.placing.proofs.Placed.{PointAccepted}
 use Rattle.placing.proofs.Ranks.{placing-axes}
 use Rattle.placing.specs.Inner.Ranking.{Axes}
-use Rattle.placing.specs.Place.{lentChecks, pointChecks}
-use Rattle.placing.specs.Placing.{inside, placing, placingCell, sizes}
-use Rattle.placing.specs.Possible.{placedChecks}
+use Rattle.placing.specs.Placing.{inside, placing, placingCell}
 use Rattle.placing.specs.declared.Placing.{Placing}
-use Rattle.placing.specs.declared.PlacingAnswer.the-variants.{Placed, Refused}
-use Rattle.blending.specs.Blend.{blendAnswer, blendChecks, blendPlacedChecks, blendedCorrectionAt}
-use Rattle.blending.specs.Blend.{blendedCorrections}
-use Rattle.blending.specs.Blend.{blendedUncertaintyAt, blendedUncertainties, correctionAt}
-use Rattle.blending.specs.Blend.{Sized, numberAt, windowChecks, writtenIf}
+use Rattle.possible.specs.Possible.{placedChecks}
+use Rattle.blending.specs.Blend.{blendChecks, correctionAt, windowChecks, writtenIf}
 use Rattle.blending.specs.Blending.{addsUp}
 use Rattle.blending.specs.Gaps.{firstGap}
 use Rattle.blending.specs.Inner.Fit.{Fit}
@@ -91,73 +86,19 @@ module _ {A : Type 0} {k : Checked} (f : ℕ → A) (u : Unit) (d : List A) wher
 
 -- ---- the whole call
 
-module _ (u : Unit) (net : List ℕ) (corrections : List ℤ) (uncertainties : List ℕ) (x y z : ℤ) (D : ℕ) where
-  abbrev lent-checks : Checked
-  lent-checks = lentChecks u (length net) (length corrections) (length uncertainties)
-
-  abbrev checks : Checked
-  checks = blendChecks u net corrections uncertainties x y z D
-
-  -- a refusal for what is lent comes first
-  pub lent-refused : {r : Refusal} → lent-checks ≡ Stopped r → checks ≡ Stopped r
-  unfolding blendChecks
-  lent-refused e = rw e refl
-
-  -- then one for the point
-  pub point-refused : {r : Refusal} → lent-checks ≡ Passed → pointChecks u x y z D ≡ Stopped r
-      → checks ≡ Stopped r
-  unfolding blendChecks
-  point-refused e h = rw (e, h) refl
-
-  -- where neither refuses, the window decides
-  pub window-decides : lent-checks ≡ Passed → pointChecks u x y z D ≡ Passed
-      → checks
-      ≡ windowChecks (netOf u) (sizes u) (numberAt net) (correctionAt (sizes u) corrections)
-      (placing u x y z D)
-  unfolding blendChecks
-  window-decides e h = rw (e, h) refl
-
-  -- a refusal is answered, and the arrays stay
-  pub blend-refused : {r : Refusal} (shifts : List ℤ) (spreads : List ℕ) → checks ≡ Stopped r
-      → (Refused r ≡ blendAnswer u net corrections uncertainties x y z D)
-      × ((shifts ≡ blendedCorrections u net corrections uncertainties x y z D shifts)
-      × ((spreads ≡ blendedUncertainties u net corrections uncertainties x y z D spreads)
-      × ((q : Placing) → Refused r ≡ Placed q → Sized u net corrections uncertainties q)))
-  unfolding blendAnswer blendedCorrections blendedUncertainties
-  blend-refused shifts spreads e = (
-    rw e refl,
-    (
-      nothing-written _ u shifts e,
-      (nothing-written _ u spreads e, λ q h. let z : _≡_ {A = ℕ} 0 1 = cc in absurd (omega arith)),
-    ),
-  )
-
-  -- else the placing is, and they are written
-  pub blend-made : (shifts : List ℤ) (spreads : List ℕ) → checks ≡ Passed
-      → (let q = placing u x y z D in
-      (Placed q ≡ blendAnswer u net corrections uncertainties x y z D)
-      × ((writtenIf Passed (blendedCorrectionAt u net corrections q) u shifts
-      ≡ blendedCorrections u net corrections uncertainties x y z D shifts)
-      × (writtenIf Passed (blendedUncertaintyAt u net uncertainties q) u spreads
-      ≡ blendedUncertainties u net corrections uncertainties x y z D spreads)))
-  unfolding blendAnswer blendedCorrections blendedUncertainties
-  blend-made shifts spreads e = (rw e refl, (rw e refl, rw e refl))
-
--- ---- at a placing that is handed in
-
 module _ (u : Unit) (net : List ℕ) (corrections : List ℤ) (uncertainties : List ℕ) (q : Placing) where
   abbrev placed-checks : Checked
   placed-checks = placedChecks u q (length net) (length corrections) (length uncertainties)
 
   -- a refusal for the placing or for what is lent comes first
   pub placed-stops : {r : Refusal} → placed-checks ≡ Stopped r
-      → Stopped r ≡ blendPlacedChecks u net corrections uncertainties q
-  unfolding blendPlacedChecks
+      → Stopped r ≡ blendChecks u net corrections uncertainties q
+  unfolding blendChecks
   placed-stops e = rw e refl
 
   -- else the window decides
   pub placed-goes-on : placed-checks ≡ Passed
       → windowChecks (netOf u) (sizes u) (numberAt net) (correctionAt (sizes u) corrections) q
-      ≡ blendPlacedChecks u net corrections uncertainties q
-  unfolding blendPlacedChecks
+      ≡ blendChecks u net corrections uncertainties q
+  unfolding blendChecks
   placed-goes-on e = rw e refl

@@ -13,9 +13,9 @@ use Rattle.spline.specs.Box.{index}
 use Rattle.spline.specs.Multiplicities.{extent}
 use Rattle.spline.specs.Place.{a1, a2, a3}
 use Rattle.unit.specs.Gaps.{isGap}
-use Rattle.unit.specs.Unit.{netOf}
+use Rattle.unit.specs.Unit.{netOf, sizes}
 use Rattle.unit.specs.declared.Unit.{Unit}
-use Rattle.placing.specs.Placing.{placingCell, sizes}
+use Rattle.placing.specs.Placing.{placingCell}
 use Rattle.placing.specs.declared.Placing.{Placing}
 use Rattle.blending.proofs.FirstGap.{nested-first}
 use Rattle.blending.proofs.Windows.{Inside}

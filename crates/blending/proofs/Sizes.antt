@@ -9,7 +9,7 @@ use lib.IntN.{ℤ}
 use Rattle.sums.proofs.Fill.{filled-cong}
 use Rattle.sums.proofs.Search.{all-at, all-cong}
 use Rattle.sums.specs.Coefficient.{factorial}
-use Rattle.sums.specs.Fill.{filled}
+use Rattle.sums.specs.Fill.{filled, numberAt}
 use Rattle.sums.specs.Search.{allTo}
 use Rattle.spline.specs.Multiplicities.{degree}
 use Rattle.unit.specs.Unit.{netOf}
@@ -17,8 +17,7 @@ use Rattle.unit.specs.declared.Checked.the-variants.{Passed}
 use Rattle.unit.specs.declared.Unit.{Unit}
 use Rattle.placing.specs.declared.Placing.{Placing}
 use Rattle.blending.proofs.Values.{adds-up-by-number}
-use Rattle.blending.specs.Blend.{Sized, blendedCorrectionAt, blendedUncertaintyAt, localOf, numberAt}
-use Rattle.blending.specs.Blend.{writtenIf}
+use Rattle.blending.specs.Blend.{Sized, blendedCorrectionAt, blendedUncertaintyAt, localOf, writtenIf}
 use Rattle.blending.specs.Blending.{addsUp, shareSum}
 use Rattle.blending.specs.Inner.Frame.{frameOf}
 use Rattle.blending.specs.Inner.Sums.{Bounded, Sums, sums}

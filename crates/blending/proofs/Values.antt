@@ -15,16 +15,16 @@ use Rattle.sums.specs.Sum.{sumBox, sumBoxZ}
 use Rattle.spline.specs.Box.{index}
 use Rattle.spline.specs.Multiplicities.{Multiplicities, degree}
 use Rattle.spline.specs.Place.{Axis, a1, a2, a3}
-use Rattle.unit.specs.Unit.{netOf}
+use Rattle.unit.specs.Unit.{netOf, sizes}
 use Rattle.unit.specs.declared.Unit.{Unit}
 use Rattle.placing.specs.Inner.Ranking.{Axes}
-use Rattle.placing.specs.Placing.{placingCell, sizes}
+use Rattle.placing.specs.Placing.{placingCell}
 use Rattle.placing.specs.declared.Placing.{Placing}
 use Rattle.blending.proofs.Numbers.{count-is, local-is}
 use Rattle.blending.proofs.Windows.{Inside, offset-is, place-sum}
 use Rattle.blending.specs.Blend.{localOf}
-use Rattle.blending.specs.Blending.{addsUp, allSimplex, blendedCorrection, blendedUncertainty}
-use Rattle.blending.specs.Blending.{share, shareSum}
+use Rattle.blending.specs.Blending.{addsUp, allSimplex, blendedCorrection, blendedUncertainty, share}
+use Rattle.blending.specs.Blending.{shareSum}
 use Rattle.blending.specs.Inner.Frame.{entryAt, frameOf, offsetOf, shareAt}
 use Rattle.blending.specs.Inner.Sums.{sums, sumsTo}
 use Rattle.blending.specs.Inner.Window.{windowSums}

@@ -11,12 +11,12 @@ use Rattle.spline.specs.Box.{index, places, width}
 use Rattle.spline.specs.Multiplicities.{Multiplicities, degree, extent}
 use Rattle.spline.specs.Place.{a1, a2, a3}
 use Rattle.unit.proofs.Limits.{BlockLimits, NetLimits, block-limits, net-limits}
-use Rattle.unit.specs.Unit.{netOf}
+use Rattle.unit.specs.Unit.{netOf, sizes}
 use Rattle.unit.specs.declared.Unit.{Unit}
 use Rattle.shape.proofs.Shapes.{limits-boxed}
 use Rattle.placing.proofs.Cells.{cell-inside, inside-axes}
 use Rattle.placing.specs.Inner.Ranking.{Axes}
-use Rattle.placing.specs.Placing.{inside, placingCell, sizes}
+use Rattle.placing.specs.Placing.{inside, placingCell}
 use Rattle.placing.specs.declared.Placing.{Placing}
 use Rattle.blending.proofs.LocalPlaces.{local-index, local-le, ordered-at, sums-of}
 use Rattle.blending.proofs.Numbers.{count-most, degree-at}

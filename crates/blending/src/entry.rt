@@ -1,10 +1,10 @@
 // One entry's shares at all local places, added to the sums there: plain, and times its correction and its
 // uncertainty.
 ghost use mathlib.Core.Path.{_≡_};
-ghost use Prim.Native.Nat.{ℕ, _+_, _-_, _*_, _<_, _≤_};
+ghost use Prim.Native.Nat.{_*_, _+_, _-_, _<_, _≤_, ℕ};
 ghost use lib.Dec.{eqb};
 ghost use lib.ListN.{length};
-ghost use Rattle.blending.specs.Blend.{numberAt};
+ghost use Rattle.sums.specs.Fill.{numberAt};
 ghost use Rattle.blending.specs.Inner.Sums.{Room, Small, addSums, entrySums, sumsIn};
 ghost use Rattle.blending.specs.Inner.Window.{AddedIn, EntryIn};
 

@@ -1,24 +1,19 @@
-// The blended numbers of a point: from unit, net, block and point or placing the blended correction and
-// uncertainty at every local place of the point's tetrahedron, or the refusal that applies. Section 10.
+// The blended numbers at a placing: from unit, net and block the blended correction and uncertainty at every
+// local place of its tetrahedron, or the refusal that applies. Section 10.
 ghost use mathlib.Core.Path.{_≡_};
 ghost use Prim.Native.Nat.{_≤_};
 ghost use lib.Dec.{eqb};
 ghost use lib.ListN.{length};
-ghost use Rattle.sums.specs.Fill.{filled};
+ghost use Rattle.sums.specs.Fill.{filled, numberAt, signedAt};
 ghost use Rattle.sums.specs.Search.{allTo};
-ghost use Rattle.unit.specs.Unit.{netOf};
+ghost use Rattle.unit.specs.Unit.{netOf, sizes};
 ghost use Rattle.unit.specs.declared.Checked.the-variants.{Passed};
-ghost use Rattle.placing.specs.Placing.{sizes};
 ghost use Rattle.placing.specs.declared.Placing.{Placing};
-ghost use Rattle.placing.specs.declared.PlacingAnswer.the-variants.{Placed};
-ghost use Rattle.blending.specs.Blend.{blendAnswer, blendedCorrections, blendedUncertainties};
-ghost use Rattle.blending.specs.Blend.{blendedCorrectionAt, blendedUncertaintyAt, numberAt, signedAt};
-ghost use Rattle.blending.specs.Blend.{Sized, blendPlacedChecks, correctionAt, windowChecks, writtenIf};
+ghost use Rattle.blending.specs.Blend.{Sized, blendChecks, blendedCorrectionAt, blendedUncertaintyAt};
+ghost use Rattle.blending.specs.Blend.{correctionAt, windowChecks, writtenIf};
 ghost use Rattle.blending.specs.Inner.Fit.{Fit};
 use crate::window::Gap;
 use placing::Placing;
-use placing::PlacingAnswer;
-use placing::possible;
 use unit::Checked;
 use unit::Unit;
 
@@ -64,7 +59,7 @@ fn hand_over(
     }
 }
 
-// The blended numbers at a placing, or 13 with the lowest index of a gap, or 23.
+// The same for a placing that was looked at: its window decides, by 13 or 23.
 fn blend_at(
     unit: Unit,
     net: &[u32],
@@ -114,55 +109,11 @@ fn blend_at(
     Checked::Passed
 }
 
-// The placing of the point X, Y, Z over a divisor and, in the two arrays, the blended correction and
-// uncertainty at each of its local places in turn; or the first refusal that applies of 21, 22, 4, 9,
-// 10, 11, 12, 13, 23, with the lowest index of a gap for 13, and arrays as they were. The last clause
-// follows from the others and the sizes of the slices' elements, which a caller does not see.
+// In the two arrays, the blended correction and uncertainty at each local place of a placing in turn; or the
+// first refusal that applies of 21, 22, 17, 4, 9, 13, 23, with the lowest index of a gap for 13, and arrays
+// as they were. The last clause follows from the others and the sizes of the slices' elements, which a caller
+// does not see.
 pub fn blend(
-    unit: Unit,
-    net: &[u32],
-    corrections: &[i16],
-    uncertainties: &[u16],
-    x: i32,
-    y: i32,
-    z: i32,
-    divisor: u32,
-    shifts: &mut [i64; 220],
-    spreads: &mut [u64; 220],
-) -> PlacingAnswer
-    ensures { λ r. ⌜ r ≡ blendAnswer unit (now (net .entry)) (now (corrections .entry))
-        (now (uncertainties .entry)) x y z divisor ⌝ }
-    ensures { λ r. ⌜ now (shifts .exit)
-        ≡ blendedCorrections unit (now (net .entry)) (now (corrections .entry)) (now (uncertainties .entry))
-        x y z divisor (now (shifts .entry)) ⌝ }
-    ensures { λ r. ⌜ now (spreads .exit)
-        ≡ blendedUncertainties unit (now (net .entry)) (now (corrections .entry)) (now (uncertainties .entry))
-        x y z divisor (now (spreads .entry)) ⌝ }
-    ensures { λ r. ⌜ ((q : Placing) → r ≡ Placed q
-        → Sized unit (now (net .entry)) (now (corrections .entry)) (now (uncertainties .entry)) q) ⌝ }
-{
-    if let Checked::Stopped(refusal) = placing::check_lent(
-        unit,
-        net.len(),
-        corrections.len(),
-        uncertainties.len(),
-    ) {
-        return PlacingAnswer::Refused(refusal);
-    }
-    let placed = placing::place(unit, x, y, z, divisor);
-    let PlacingAnswer::Placed(q) = placed else {
-        return placed;
-    };
-    let checked = blend_at(unit, net, corrections, uncertainties, q, shifts, spreads);
-    if let Checked::Stopped(refusal) = checked {
-        return PlacingAnswer::Refused(refusal);
-    }
-    placed
-}
-
-// The blended numbers at a placing that is handed in, in the two arrays; or the first refusal that applies of
-// 21, 22, 17, 4, 9, 13, 23, likewise.
-pub fn blend_placed(
     unit: Unit,
     net: &[u32],
     corrections: &[i16],
@@ -171,7 +122,7 @@ pub fn blend_placed(
     shifts: &mut [i64; 220],
     spreads: &mut [u64; 220],
 ) -> Checked
-    ensures { λ r. ⌜ r ≡ blendPlacedChecks unit (now (net .entry)) (now (corrections .entry))
+    ensures { λ r. ⌜ r ≡ blendChecks unit (now (net .entry)) (now (corrections .entry))
         (now (uncertainties .entry)) q ⌝ }
     ensures { λ r. ⌜ now (shifts .exit)
         ≡ writtenIf r (blendedCorrectionAt unit (now (net .entry)) (now (corrections .entry)) q)

@@ -1,14 +1,14 @@
 // The window of a point, entry by entry in the order of the block's index, up to the first gap.
 ghost use mathlib.Core.Path.{_≡_};
-ghost use Prim.Native.Nat.{ℕ, _*_, _<_, _≤_};
+ghost use Prim.Native.Nat.{_*_, _<_, _≤_, ℕ};
 ghost use lib.ListN.{length};
+ghost use Rattle.sums.specs.Fill.{numberAt, signedAt};
 ghost use Rattle.sums.specs.Search.{nowhere};
-ghost use Rattle.blending.specs.Blend.{numberAt, signedAt};
-ghost use Rattle.blending.specs.LocalPlaces.{localAt};
 ghost use Rattle.blending.specs.Inner.Frame.{FrameLimits, entryAt, offsetOf, shareAt};
+ghost use Rattle.blending.specs.Inner.Search.{gapOf, windowGaps};
 ghost use Rattle.blending.specs.Inner.Sums.{Bounded, Room, noSums, sumsIn};
 ghost use Rattle.blending.specs.Inner.Window.{InWindow, Within, positionAfter, windowSums};
-ghost use Rattle.blending.specs.Inner.Search.{gapOf, windowGaps};
+ghost use Rattle.blending.specs.LocalPlaces.{localAt};
 use crate::entry;
 use crate::frame::Frame;
 use crate::local::LocalPlace;

@@ -12,8 +12,8 @@ ghost use Rattle.field.specs.Load.{loadAnswer, loadCorrections, loadUncertainti
 ghost use Rattle.placing.specs.Place.{placeAnswer};
 ghost use Rattle.point.specs.Answer.{pointAnswer, valuingAnswer};
 ghost use Rattle.live.specs.Answer.{liveAnswer, liveValuingAnswer};
-ghost use Rattle.flat.specs.Flat.{emptyFlat, unitOf, flatNet, flatBlock, flatPlacing, flatPoint, flatLive};
-ghost use Rattle.flat.specs.Flat.{switchedOn};
+ghost use Rattle.flat.specs.Flat.{emptyFlat, flatBlock, flatLive, flatNet, flatPlacing, flatPoint};
+ghost use Rattle.flat.specs.Flat.{switchedOn, unitOf};
 use flat::FlatLiveAnswer;
 use flat::FlatPlacingAnswer;
 use flat::FlatPointAnswer;

@@ -8,9 +8,9 @@ use native.Mathlib.Omega.{arith}
 use lib.IntN.{pos, ℤ}
 use lib.ListN.{getD, length, set}
 use lib.Seq.{ext-getD, getD-drop, getD-set-other, getD-set-same}
+use Rattle.sums.proofs.Cases.{by-order}
 use Rattle.sums.proofs.Fill.{drop-filled, filled-at, length-filled}
 use Rattle.sums.specs.Fill.{filled}
-use Rattle.spline.proofs.Cases.{by-order}
 use Rattle.spline.specs.Place.{Axis}
 use Rattle.differences.proofs.RunningCells.{remainder-is, running-near, running-remainder, whole}
 use Rattle.differences.specs.Inner.Coordinates.{nearCoordinate}

@@ -48,6 +48,20 @@ cell-lowered g p n c e = ap (lowOf p) e
 abbrev pub IsCell : Direction → ℕ → Axis → ℕ → Cell → Type 0
 IsCell d g b n c = c ≡ cellOf g (n + g * component d b)
 
+module _ (d : Direction) (b : Axis) (g : ℕ) where
+  -- it begins as the code has it
+  pub cell-first : (c : Cell) (step : ℕ) → step ≡ component d b → c ≡ cellOf g (g * step) → IsCell d g b 0 c
+  cell-first c step es e =
+      let n : g * component d b ≡ 0 + g * component d b = omega arith in
+      e ∙ ap (λ (t : ℕ). cellOf g (g * t)) es ∙ ap (cellOf g) n
+
+  -- and runs along as the code has it
+  pub cell-next : (c r : Cell) (n : ℕ) → IsCell d g b n c → ((k : ℕ) → c ≡ cellOf g k → r ≡ cellOf g (k + 1))
+      → IsCell d g b (n + 1) r
+  cell-next c r n e next =
+      let k : n + g * component d b + 1 ≡ n + 1 + g * component d b = omega arith in
+      next (n + g * component d b) e ∙ ap (cellOf g) k
+
 module _ (d : Direction) (g : ℕ) (W : Axis → ℕ) (s : List ℕ) (W′ : Axis → ℕ) (y z : ℕ) (hy : y < W′ a2) where
   abbrev row : ℕ
   row = W′ a1 * (y + W′ a2 * z)

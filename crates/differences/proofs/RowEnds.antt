@@ -6,8 +6,8 @@ use Prim.Native.Nat.{_*_, _+_, _-_, _<_, _≤_, ℕ}
 use native.Mathlib.Omega.{arith}
 use lib.IntN.{negsuc, pos, ℤ}
 use lib.ListN.{getD}
+use Rattle.sums.proofs.Cases.{by-ltb, by-order}
 use Rattle.spline.proofs.Box.{spread-at, spread-outside, spread-vanishes}
-use Rattle.spline.proofs.Cases.{by-ltb, by-order}
 use Rattle.spline.proofs.Solution.{Below}
 use Rattle.spline.specs.Box.{places, spread}
 use Rattle.spline.specs.Place.{Axis, a1, a2, a3, place}

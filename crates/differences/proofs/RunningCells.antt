@@ -4,7 +4,7 @@ use Prim.Native.Nat.{_%_, _*_, _+_, _-_, _/_, _<_, _≤_, suc, zero, ℕ}
 use native.Mathlib.Nat.{add-zero, div-add-mod, div-eq-of-lt, mod-eq-of-lt, mod-lt, mul-add-div}
 use native.Mathlib.Nat.{mul-add-mod-self-left, mul-le-mul-left, zero-lt-suc}
 use native.Mathlib.Omega.{arith}
-use Rattle.spline.proofs.Cases.{by-order}
+use Rattle.sums.proofs.Cases.{by-order}
 use Rattle.spline.proofs.Lowering.{above-lowers, below-stays}
 use Rattle.spline.specs.Rule.{lowerAbove}
 use Rattle.differences.specs.Inner.Coordinates.{cellOf, loweredCoordinate, nearCoordinate}

@@ -1,4 +1,1 @@
-pub mod File
 pub mod Load
-pub mod Encoding
-pub mod Inner

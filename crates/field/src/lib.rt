@@ -1,44 +1,24 @@
 // The loading of a field file into two lent slices and a unit. The whole file is checked before the
 // first write. docs/SPECIFICATION.md, Section 8, has the layout and the checks.
 ghost use mathlib.Core.Path.{_≡_};
-ghost use Prim.Native.Nat.{_+_, _*_, _≤_};
-ghost use lib.ListN.{length};
-ghost use Rattle.sums.specs.Fill.{filled};
-ghost use Rattle.field.specs.File.{correction, correctionsStart, uncertainty};
-ghost use Rattle.field.specs.Inner.Entries.{HasEntries};
-ghost use Rattle.field.specs.Load.{loadAnswer, loadCorrections, loadUncertainties};
-use crate::checks::check_load;
-use crate::file::Origin;
-use crate::file::Sizes;
-use crate::file::correction_at;
-use crate::file::uncertainty_at;
+ghost use Rattle.field.specs.Load.{loadAnswer, loadChecks, loadCorrections, loadUncertainties};
+use file::Origin;
+use file::Sizes;
+use file::entries;
+use file_checks::check_file;
+use file_entries::read_corrections;
+use file_entries::read_uncertainties;
 use unit::Checked;
 use unit::Unit;
 use unit::UnitAnswer;
 
-mod checks;
-mod file;
-
-// Writes the corrections of the n entries.
-fn read_corrections(file: &[u8], n: usize, corrections: &mut [i16])
-    requires { ⌜ (correctionsStart + 2 * n ≤ length (now file)) × (n ≤ length (now corrections)) ⌝ }
-    ensures { λ _. ⌜ now (corrections .exit)
-        ≡ filled (correction (now (file .entry))) n (now (corrections .entry)) ⌝ }
+// All checks of a load, by the lengths of the two slices: those of the file, then 9.
+fn check_load(file: &[u8], corrections: usize, uncertainties: usize) -> Checked
+    ensures { λ r. ⌜ r ≡ loadChecks (now (file .entry)) corrections uncertainties ⌝ }
 {
-    for i in 0..n {
-        corrections[i] = correction_at(file, i);
-    }
-}
-
-// Writes the uncertainties of the n entries.
-fn read_uncertainties(file: &[u8], n: usize, uncertainties: &mut [u16])
-    requires { ⌜ HasEntries (now file) n × (n ≤ length (now uncertainties)) ⌝ }
-    ensures { λ _. ⌜ now (uncertainties .exit)
-        ≡ filled (uncertainty (now (file .entry))) n (now (uncertainties .entry)) ⌝ }
-{
-    for i in 0..n {
-        uncertainties[i] = uncertainty_at(file, n, i);
-    }
+    let of_file = check_file(file);
+    let room = unit::check_block_room(entries(file), corrections, uncertainties);
+    of_file.and_then(room)
 }
 
 // Loads a field file: its entries go to the start of the two slices, its sizes and its origin to the unit.
@@ -60,7 +40,7 @@ pub fn load(
     }
     let sizes = Sizes::read(file);
     let origin = Origin::read(file);
-    let n = sizes.entries();
+    let n = entries(file) as u32;
     read_corrections(file, n, corrections);
     read_uncertainties(file, n, uncertainties);
     UnitAnswer::Changed(unit.with_block(

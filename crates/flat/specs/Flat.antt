@@ -11,10 +11,10 @@ use Rattle.placing.specs.declared.PlacingAnswer.{PlacingAnswer}
 use Rattle.point.specs.declared.PointAnswer.{PointAnswer}
 use Rattle.live.specs.Answer.{float}
 use Rattle.live.specs.declared.LiveAnswer.{LiveAnswer}
-use Rattle.flat.specs.declared.FlatUnit.{FlatUnit}
 use Rattle.flat.specs.declared.FlatLiveAnswer.{FlatLiveAnswer}
 use Rattle.flat.specs.declared.FlatPlacingAnswer.{FlatPlacingAnswer}
 use Rattle.flat.specs.declared.FlatPointAnswer.{FlatPointAnswer}
+use Rattle.flat.specs.declared.FlatUnit.{FlatUnit}
 use Rattle.flat.specs.declared.FlatUnitAnswer.{FlatUnitAnswer}
 
 -- Section 12.1: the unit that a record stands for; of a flag, 1 says present, and every other byte counts as

@@ -1,8 +1,8 @@
 // The records and answers of the C interface: flat structs in the place of a unit and of enums. Any bytes
 // may stand in a record. docs/SPECIFICATION.md, Section 12.
 ghost use mathlib.Core.Path.{_≡_};
-ghost use Rattle.flat.specs.Flat.{unitOf, flatNet, flatBlock, flatPlacing, flatPoint, flatLive};
-ghost use Rattle.flat.specs.Flat.{switchedOn};
+ghost use Rattle.flat.specs.Flat.{flatBlock, flatLive, flatNet, flatPlacing, flatPoint, switchedOn};
+ghost use Rattle.flat.specs.Flat.{unitOf};
 use live::LiveAnswer;
 use placing::Placing;
 use placing::PlacingAnswer;

@@ -6,10 +6,10 @@ use Prim.Native.Nat.{_+_, _-_, _<_, _≤_, suc, zero, ℕ}
 use native.Mathlib.Omega.{arith}
 use borrow.Fn.PlainCycle.{is}
 use lib.ListN.{getD, length, take}
+use Rattle.sums.proofs.Cases.{by-ltb}
 use Rattle.sums.proofs.Fill.{length-tabulate, list-is-tabulate, tabulate-at, tabulate-cong, take-tabulate}
 use Rattle.sums.proofs.Search.{nowhere-first}
 use Rattle.sums.specs.Fill.{filled, tabulate}
-use Rattle.spline.proofs.Cases.{by-ltb}
 use Rattle.spline.proofs.Multiplicities.{Positive}
 use Rattle.spline.proofs.Orders.{order-of-defined}
 use Rattle.spline.specs.Box.{definedNumber, placeOf, places, width}

@@ -1,5 +1,5 @@
-pub mod Texts
 pub mod Orders
 pub mod Printed
+pub mod Lengths
 pub mod Reading
 pub mod Built

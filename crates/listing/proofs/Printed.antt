@@ -1,14 +1,15 @@
 -- What is printed: by whether the order is served, and by its first bytes.
 use mathlib.Core.Bool.{false}
 use mathlib.Core.List.{List, _++_, map}
-use mathlib.Core.Path.{_∙_, _≡_, ap, refl, sym}
-use Prim.Native.Nat.{_%_, _/_, _<_, _≤_, min, suc, zero, ℕ}
+use mathlib.Core.Path.{_∙_, _≡_, ap, sym}
+use Prim.Native.Nat.{_%_, _/_, _<_, _≤_, min, ℕ}
 use native.Mathlib.Nat.{min-eq-left, min-eq-right}
 use native.Mathlib.Omega.{arith}
 use borrow.Author.Tests.{lt-ltb, ltb-false}
 use lib.ListN.{length, length-append, length-map, take}
 use lib.Seq.{length-take-le}
-use Rattle.spline.proofs.Cases.{by-order}
+use Rattle.sums.proofs.Cases.{by-order}
+use Rattle.text.proofs.Puts.{joined-cong}
 use Rattle.spline.specs.Box.{places, width}
 use Rattle.spline.specs.Multiplicities.{Multiplicities, degree, orderMultiplicities}
 use Rattle.spline.specs.Place.{a1, a2, a3}
@@ -23,14 +24,8 @@ use Rattle.listing.specs.Order.{digitNumber, orderLength, typedOrder}
 use Rattle.listing.specs.Print.{headerText, netText, placeText, placesText}
 use Rattle.listing.specs.Print.{printed, printedOrder, refusedText}
 use Rattle.listing.specs.Reading.{wantsMore}
-use Rattle.listing.specs.Text.{joined}
 
 -- ---- the text of a net
-joined-cong : (f g : ℕ → List ℕ) (n : ℕ) → ((i : ℕ) → i < n → f i ≡ g i) → joined f n ≡ joined g n
-unfolding joined
-joined-cong f g zero h = refl
-joined-cong f g (suc n) h = rw (joined-cong f g n (λ i l. h i (omega arith)), h n (omega arith))
-
 -- only the numbers of the box count
 pub net-text-cong : (v : Multiplicities) (f g : ℕ → ℕ) → ((i : ℕ) → i < places (width v) → f i ≡ g i)
     → netText v f ≡ netText v g

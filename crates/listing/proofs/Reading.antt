@@ -10,7 +10,7 @@ use borrow.Author.Tests.{le-ltb, lt-ltb, ltb-true}
 use lib.Dec.{ltb}
 use lib.ListN.{length, length-append, set, take}
 use lib.Seq.{append-snoc, length-take-le, take-all, take-suc-set}
-use Rattle.spline.proofs.Cases.{by-order}
+use Rattle.sums.proofs.Cases.{by-order}
 use Rattle.listing.proofs.Printed.{ten-decide}
 use Rattle.listing.specs.Print.{printed}
 use Rattle.listing.specs.Reading.{wantsMore, withByte}

@@ -3,6 +3,7 @@ use mathlib.Core.Bool.{cond}
 use mathlib.Core.List.{List, [], _++_, _∷_}
 use Prim.Native.Nat.{_%_, _*_, _/_, ℕ}
 use lib.Dec.{eqb}
+use Rattle.text.specs.Text.{blank, item, joined, newline, triple}
 use Rattle.spline.specs.Box.{width}
 use Rattle.spline.specs.Multiplicities.{Multiplicities, degree, orderMultiplicities}
 use Rattle.spline.specs.Place.{a1, a2, a3}
@@ -10,7 +11,6 @@ use Rattle.unit.specs.Checks.{passedOr}
 use Rattle.unit.specs.declared.Refusal.{Refusal}
 use Rattle.net.specs.Order.{buildChecks, orderNumber}
 use Rattle.listing.specs.Order.{typedOrder}
-use Rattle.listing.specs.Text.{blank, item, joined, newline}
 
 -- the bytes of `box` and `degree`, with the blank after each
 abbrev pub boxWord : List ℕ
@@ -21,12 +21,11 @@ degreeWord = 100 ∷ 101 ∷ 103 ∷ 114 ∷ 101 ∷ 101 ∷ 32 ∷ []
 
 -- Section 13.2: the first line
 unfoldable pub headerText : ℕ → ℕ → ℕ → ℕ → List ℕ
-headerText w1 w2 w3 m =
-    boxWord ++ item w1 blank ++ item w2 blank ++ item w3 blank ++ degreeWord ++ item m newline
+headerText w1 w2 w3 m = boxWord ++ triple w1 w2 w3 blank ++ degreeWord ++ item m newline
 
 -- Section 13.2: the line of a place, none where its number is 0
 unfoldable pub placeText : ℕ → ℕ → ℕ → ℕ → List ℕ
-placeText x y z n = cond (eqb n 0) [] (item x blank ++ item y blank ++ item z blank ++ item n newline)
+placeText x y z n = cond (eqb n 0) [] (triple x y z blank ++ item n newline)
 
 -- Section 13.2: these lines for all places of a box, f being the number at each index
 unfoldable pub placesText : ℕ → ℕ → ℕ → (ℕ → ℕ) → List ℕ

@@ -4,13 +4,12 @@ ghost use mathlib.Core.Path.{_≡_};
 ghost use mathlib.Core.List.{[], _++_};
 ghost use Prim.Native.Nat.{_≤_, min};
 ghost use lib.ListN.{length, drop, take};
+ghost use Rattle.text.specs.Put.{Put};
 ghost use Rattle.listing.specs.Print.{printed, printedOrder};
 ghost use Rattle.listing.specs.Reading.{held, wantsMore, withByte};
-ghost use Rattle.listing.specs.Inner.Put.{Put};
 
 mod lines;
 mod order;
-mod text;
 
 use unit::Unit;
 use unit::UnitAnswer;
@@ -38,9 +37,8 @@ fn least(a: usize, b: usize) -> usize
 
 // The text of an order.
 fn print_order(order: &[u8], out: &mut [u8]) -> usize
-    requires { ⌜ 148198 ≤ length (now out) ⌝ }
     ensures { λ r. ⌜ Put (printedOrder (now (order .entry))) (now (out .entry)) (now (out .exit)) 0 r
-        × (r ≤ length (now (out .entry))) ⌝ }
+        × (length (printedOrder (now (order .entry))) ≤ 148198) ⌝ }
 {
     let mut net = [0u32; PLACES];
     let mut work = [0i32; PLACES];

@@ -1,20 +1,18 @@
 // The lines that are printed, put into a lent slice.
-ghost use Prim.Native.Nat.{ℕ, _+_, _≤_, _<_};
+ghost use Prim.Native.Nat.{ℕ, _≤_};
 ghost use lib.ListN.{length, getD};
+ghost use Rattle.text.specs.Put.{Put};
 ghost use Rattle.unit.specs.Unit.{netOf};
-ghost use Rattle.listing.specs.Inner.Put.{Put};
 ghost use Rattle.listing.specs.Print.{headerText, placeText, placesText, netText, refusedText};
 ghost use Rattle.listing.specs.Inner.Fit.{Lines, Listed};
-use crate::text;
 use shape::Counts;
 use unit::Refusal;
 use unit::Unit;
 
 // The line of a refusal.
 pub(crate) fn put_refusal(out: &mut [u8], refusal: Refusal) -> usize
-    requires { ⌜ 19 ≤ length (now out) ⌝ }
     ensures { λ r. ⌜ Put (refusedText refusal) (now (out .entry)) (now (out .exit)) 0 r
-        × (r ≤ length (now (out .entry))) ⌝ }
+        × (length (refusedText refusal) ≤ 19) ⌝ }
 {
     let at = text::put_word(out, 0, b"refused ");
     text::put_item(out, at, refusal.number as usize, b'\n')
@@ -22,38 +20,30 @@ pub(crate) fn put_refusal(out: &mut [u8], refusal: Refusal) -> usize
 
 // The line of a box and its degree.
 fn put_header(out: &mut [u8], w1: usize, w2: usize, w3: usize, m: usize) -> usize
-    requires { ⌜ (w1 < 100) × (w2 < 100) × (w3 < 100) × (m < 10) × (22 ≤ length (now out)) ⌝ }
-    ensures { λ r. ⌜ Put (headerText w1 w2 w3 m) (now (out .entry)) (now (out .exit)) 0 r × (r ≤ 22) ⌝ }
+    ensures { λ r. ⌜ Put (headerText w1 w2 w3 m) (now (out .entry)) (now (out .exit)) 0 r ⌝ }
 {
     let mut at = text::put_word(out, 0, b"box ");
-    at = text::put_item(out, at, w1, b' ');
-    at = text::put_item(out, at, w2, b' ');
-    at = text::put_item(out, at, w3, b' ');
+    at = text::put_triple(out, at, w1, w2, w3, b' ');
     at = text::put_word(out, at, b"degree ");
     text::put_item(out, at, m, b'\n')
 }
 
 // The line of a place, where its number is not 0.
 fn put_place(out: &mut [u8], at: usize, x: usize, y: usize, z: usize, number: u32) -> usize
-    requires { ⌜ (x < 100) × (y < 100) × (z < 100) × (number < 1000000) × (at + 16 ≤ length (now out)) ⌝ }
-    ensures { λ r. ⌜ Put (placeText x y z number) (now (out .entry)) (now (out .exit)) at r
-        × (r ≤ at + 16) ⌝ }
+    ensures { λ r. ⌜ Put (placeText x y z number) (now (out .entry)) (now (out .exit)) at r ⌝ }
 {
     if number == 0 {
         return at;
     }
-    let after_x = text::put_item(out, at, x, b' ');
-    let after_y = text::put_item(out, after_x, y, b' ');
-    let after_z = text::put_item(out, after_y, z, b' ');
-    text::put_item(out, after_z, number as usize, b'\n')
+    let after_place = text::put_triple(out, at, x, y, z, b' ');
+    text::put_item(out, after_place, number as usize, b'\n')
 }
 
 // The lines of the places of a box, in index order.
 fn put_places(out: &mut [u8], start: usize, net: &[u32], w1: usize, w2: usize, w3: usize) -> usize
-    requires { ⌜ Lines w1 w2 w3 (now net) start (length (now out)) ⌝ }
+    requires { ⌜ Lines w1 w2 w3 (now net) ⌝ }
     ensures { λ r. ⌜ Put (placesText w1 w2 w3 (λ (i : ℕ). getD (now (net .entry)) i 0))
-        (now (out .entry)) (now (out .exit)) start r
-        × (r ≤ length (now (out .entry))) ⌝ }
+        (now (out .entry)) (now (out .exit)) start r ⌝ }
 {
     let n = w1 * w2 * w3;
     let mut at = start;
@@ -68,10 +58,9 @@ fn put_places(out: &mut [u8], start: usize, net: &[u32], w1: usize, w2: usize, w
 
 // The lines of a unit's net.
 pub(crate) fn put_net(out: &mut [u8], unit: Unit, net: &[u32]) -> usize
-    requires { ⌜ Listed unit (now net) (length (now out)) ⌝ }
+    requires { ⌜ Listed unit (now net) ⌝ }
     ensures { λ r. ⌜ Put (netText (netOf unit) (λ (i : ℕ). getD (now (net .entry)) i 0))
-        (now (out .entry)) (now (out .exit)) 0 r
-        × (r ≤ length (now (out .entry))) ⌝ }
+        (now (out .entry)) (now (out .exit)) 0 r ⌝ }
 {
     let s = shape::shape_of(Counts::of_unit(unit));
     let at = put_header(out, s.w1, s.w2, s.w3, s.m);

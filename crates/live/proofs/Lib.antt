@@ -5,3 +5,4 @@ pub mod Products
 pub mod Sizes
 pub mod Turns
 pub mod Answers
+pub mod InTurn

@@ -11,7 +11,7 @@ use Rattle.sums.proofs.Simplex.{tetrahedron, triangle}
 use Rattle.sums.proofs.SumZ.{sumZ-pos}
 use Rattle.sums.specs.Coefficient.{binomial, factorial}
 use Rattle.sums.specs.Simplex.{bernstein}
-use Rattle.placing.specs.Place.{liveLimit, scale}
+use Rattle.limits.specs.Limits.{liveLimit, scale}
 use Rattle.placing.specs.Placing.{weightSum}
 use Rattle.placing.specs.declared.Placing.{Placing}
 use Rattle.blending.specs.LocalPlaces.{localPlaces}

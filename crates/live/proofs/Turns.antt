@@ -8,7 +8,7 @@ use mir.Facts.{toZ-ofZ}
 use mir.Syntax.{w64}
 use mir.Val.{ofZ, toZ}
 use Rattle.sums.proofs.MachineSizes.{fits}
-use Rattle.placing.specs.Place.{liveLimit, scale}
+use Rattle.limits.specs.Limits.{liveLimit, scale}
 use Rattle.placing.specs.Placing.{weightSum}
 use Rattle.placing.specs.declared.Placing.{Placing}
 use Rattle.blending.specs.LocalPlaces.{localPlaces}

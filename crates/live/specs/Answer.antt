@@ -1,20 +1,22 @@
--- What a live call and a live valuing call answer, by cases in the order of their checks (21, 22, 4, 9, 10,
--- 11, 15, 12, 13, 23; 21, 22, 17, 15, 4, 9, 13, 23): Sections 11.7, 11.8 and 11.12.
+-- What a live call and a live valuing call answer, by their checks in their order (21, 22, 4, 9, 10, 11, 15,
+-- 12, 13, 23; 21, 22, 17, 15, 4, 9, 13, 23): Sections 11.7, 11.8 and 11.12.
 use mathlib.Core.Bool.{Bool, false, true}
 use mathlib.Core.List.{List}
 use Prim.Native.Nat.{ℕ}
 use lib.Ieee.{Float, binary64, ofInt}
 use lib.IntN.{pos, ℤ}
 use lib.ListN.{length}
+use Rattle.sums.specs.Fill.{numberAt}
 use Rattle.unit.specs.Checks.{andThen, passedOr}
-use Rattle.unit.specs.Unit.{netOf}
+use Rattle.unit.specs.Unit.{netOf, sizes}
 use Rattle.unit.specs.declared.Checked.{Checked}
 use Rattle.unit.specs.declared.Unit.{Unit}
-use Rattle.placing.specs.Place.{divisorChecks, insideCheck, lentChecks, liveCheck, roomChecks}
-use Rattle.placing.specs.Placing.{placing, sizes}
-use Rattle.placing.specs.Possible.{livePlacingChecks}
+use Rattle.limits.specs.Limits.{lentChecks, liveDivisorChecks, roomChecks}
+use Rattle.placing.specs.Place.{insideCheck}
+use Rattle.placing.specs.Placing.{placing}
 use Rattle.placing.specs.declared.Placing.{Placing}
-use Rattle.blending.specs.Blend.{correctionAt, numberAt, uncertaintyAt, windowChecks}
+use Rattle.possible.specs.Possible.{livePlacingChecks}
+use Rattle.blending.specs.Blend.{correctionAt, uncertaintyAt, windowChecks}
 use Rattle.point.specs.Bernstein.{shiftNumerator, uncertaintyNumerator}
 use Rattle.live.specs.declared.LiveAnswer.{LiveAnswer}
 use Rattle.live.specs.declared.LiveAnswer.the-variants.{Both, Refused, Shift}
@@ -33,11 +35,10 @@ module _ (u : Unit) (net : List ℕ) (corrections : List ℤ) (uncertainties : L
   unfoldable pub liveChecks : Checked
   liveChecks =
       andThen (lentChecks u (length net) (length corrections) (length uncertainties))
-      (andThen (divisorChecks (netOf u) D)
-      (andThen (liveCheck (netOf u) D)
+      (andThen (liveDivisorChecks (netOf u) D)
       (andThen (insideCheck u x y z D)
       (windowChecks (netOf u) (sizes u) (numberAt net) (correctionAt (sizes u) corrections)
-      (placing u x y z D)))))
+      (placing u x y z D))))
 
   -- Section 11.8: the answer, by the flag that switches the uncertainty on
   unfoldable pub liveAnswer : Bool → LiveAnswer

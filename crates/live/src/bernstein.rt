@@ -1,13 +1,13 @@
 // The Bernstein sums N and U in floats: of each weight powers and binomials first, then their product, then
 // this times the blended numbers.
 ghost use mathlib.Core.Path.{_≡_};
-ghost use Prim.Native.Nat.{ℕ, _*_, _-_, _^_, _≤_};
+ghost use Prim.Native.Nat.{_*_, _-_, _^_, _≤_, ℕ};
 ghost use lib.Ieee.{binary64, mul};
 ghost use lib.IntN.{natAbs, pos};
 ghost use Rattle.sums.specs.Coefficient.{binomial};
-ghost use Rattle.placing.specs.Place.{limit, liveLimit, scale};
+ghost use Rattle.sums.specs.Fill.{numberAt, signedAt};
+ghost use Rattle.limits.specs.Limits.{limit, liveLimit, scale};
 ghost use Rattle.placing.specs.Placing.{weightSum};
-ghost use Rattle.blending.specs.Blend.{numberAt, signedAt};
 ghost use Rattle.point.specs.Bernstein.{binomialTable, termWeight};
 ghost use Rattle.point.specs.Inner.Parts.{BlendedSizes, partsTo};
 ghost use Rattle.point.specs.Inner.Weights.{Scaled, WithinDegree};

@@ -3,17 +3,17 @@
 // exact. Sections 11.7, 11.8 and 11.12.
 ghost use mathlib.Core.Path.{_≡_};
 ghost use Prim.Native.Nat.{_≤_};
+ghost use Rattle.sums.specs.Fill.{numberAt, signedAt};
 ghost use Rattle.spline.specs.Multiplicities.{degree};
 ghost use Rattle.unit.specs.Unit.{netOf};
-ghost use Rattle.placing.specs.Place.{liveLimit, scale};
+ghost use Rattle.limits.specs.Limits.{liveLimit, scale};
 ghost use Rattle.placing.specs.Placing.{weightSum};
-ghost use Rattle.blending.specs.Blend.{numberAt, signedAt};
 ghost use Rattle.point.specs.Inner.Parts.{BlendedSizes, partsTo};
 ghost use Rattle.point.specs.Inner.Weights.{Scaled};
 ghost use Rattle.live.specs.Answer.{liveAnswer, liveValue, liveValuingAnswer};
+ghost use Rattle.live.specs.Inner.Early.{earlyChecks};
 use placing::Placing;
 use placing::PlacingAnswer;
-use placing::possible;
 use shape::Counts;
 use unit::Checked;
 use unit::Refusal;
@@ -59,51 +59,14 @@ fn summed(
     LiveAnswer::Shift(sums.numerator)
 }
 
-// N and U as floats at the point X, Y, Z over a divisor, N alone where the flag is off, or the first refusal
-// that applies of 21, 22, 4, 9, 10, 11, 15, 12, 13, 23, with the lowest index of a gap for 13.
-pub fn answer(
-    unit: Unit,
-    net: &[u32],
-    corrections: &[i16],
-    uncertainties: &[u16],
-    x: i32,
-    y: i32,
-    z: i32,
-    divisor: u32,
-    with_uncertainty: bool,
-) -> LiveAnswer
-    ensures { λ r. ⌜ r ≡ liveAnswer unit (now (net .entry)) (now (corrections .entry))
-        (now (uncertainties .entry)) x y z divisor «with_uncertainty» ⌝ }
+// Checks 21, 22, 17 and 15, where 15 may apply; where it does not, the others are left to the blending.
+fn check_early(unit: Unit, q: Placing) -> Checked
+    ensures { λ r. ⌜ r ≡ earlyChecks unit q ⌝ }
 {
-    if let Checked::Stopped(refusal) = placing::check_lent(
-        unit,
-        net.len(),
-        corrections.len(),
-        uncertainties.len(),
-    ) {
-        return LiveAnswer::Refused(refusal);
+    if let Checked::Stopped(refusal) = limits::check_live_divisor(unit, q.divisor()) {
+        return possible::check_live_placing(unit, q);
     }
-    if let Checked::Stopped(refusal) = placing::divisor::check_live(unit, divisor) {
-        return LiveAnswer::Refused(refusal);
-    }
-    let mut shifts = [0i64; 220];
-    let mut spreads = [0u64; 220];
-    let blended = blending::blend(
-        unit,
-        net,
-        corrections,
-        uncertainties,
-        x,
-        y,
-        z,
-        divisor,
-        &mut shifts,
-        &mut spreads,
-    );
-    match blended {
-        PlacingAnswer::Placed(q) => summed(unit, q, &shifts, &spreads, with_uncertainty),
-        PlacingAnswer::Refused(refusal) => LiveAnswer::Refused(refusal),
-    }
+    Checked::Passed
 }
 
 // N and U as floats at a placing, N alone where the flag is off, or the first refusal that applies of 21, 22,
@@ -119,12 +82,12 @@ pub fn value(
     ensures { λ r. ⌜ r ≡ liveValuingAnswer unit (now (net .entry)) (now (corrections .entry))
         (now (uncertainties .entry)) q «with_uncertainty» ⌝ }
 {
-    if let Checked::Stopped(refusal) = possible::check_live(unit, q) {
+    if let Checked::Stopped(refusal) = check_early(unit, q) {
         return LiveAnswer::Refused(refusal);
     }
     let mut shifts = [0i64; 220];
     let mut spreads = [0u64; 220];
-    let blended = blending::blend_placed(
+    let blended = blending::blend(
         unit,
         net,
         corrections,
@@ -137,4 +100,52 @@ pub fn value(
         return LiveAnswer::Refused(refusal);
     }
     summed(unit, q, &shifts, &spreads, with_uncertainty)
+}
+
+// N and U as floats at the point X, Y, Z over a divisor, N alone where the flag is off, or the first refusal
+// that applies of 21, 22, 4, 9, 10, 11, 15, 12, 13, 23, with the lowest index of a gap for 13. The
+// point is placed and valued; 4 and 9 stand before 15 here, so they are looked at before it is valued, and
+// where it is not placed they come first, and then 15.
+pub fn answer(
+    unit: Unit,
+    net: &[u32],
+    corrections: &[i16],
+    uncertainties: &[u16],
+    x: i32,
+    y: i32,
+    z: i32,
+    divisor: u32,
+    with_uncertainty: bool,
+) -> LiveAnswer
+    ensures { λ r. ⌜ r ≡ liveAnswer unit (now (net .entry)) (now (corrections .entry))
+        (now (uncertainties .entry)) x y z divisor «with_uncertainty» ⌝ }
+{
+    let placed = placing::place(unit, x, y, z, divisor);
+    match placed {
+        PlacingAnswer::Placed(q) => {
+            if let Checked::Stopped(refusal) = limits::check_room(
+                unit,
+                net.len(),
+                corrections.len(),
+                uncertainties.len(),
+            ) {
+                return LiveAnswer::Refused(refusal);
+            }
+            value(unit, net, corrections, uncertainties, q, with_uncertainty)
+        }
+        PlacingAnswer::Refused(refusal) => {
+            if let Checked::Stopped(first) = limits::check_lent(
+                unit,
+                net.len(),
+                corrections.len(),
+                uncertainties.len(),
+            ) {
+                return LiveAnswer::Refused(first);
+            }
+            if let Checked::Stopped(first) = limits::check_live_divisor(unit, divisor as u64) {
+                return LiveAnswer::Refused(first);
+            }
+            LiveAnswer::Refused(refusal)
+        }
+    }
 }

@@ -9,10 +9,11 @@ use native.Mathlib.Omega.{arith}
 use borrow.Author.Tests.{leb-true, not-false}
 use lib.Dec.{leb}
 use lib.ListN.{drop, getD, length, length-map, take, take-append-drop}
-use lib.Seq.{length-take-le, take-suc, take-take}
+use lib.Seq.{drop-cons, length-take-le, take-suc, take-take}
 use Rattle.sums.proofs.Coefficient.{factorial-nine}
 use Rattle.sums.proofs.Places.{box-le}
 use Rattle.sums.proofs.Search.{first-nowhere}
+use Rattle.sums.specs.Fill.{filled}
 use Rattle.spline.proofs.Box.{spread-list}
 use Rattle.spline.proofs.Multiplicities.{order-degree, order-positive, order-snoc}
 use Rattle.spline.proofs.OrderNet.{built-snoc, order-high, order-le, order-low}
@@ -24,7 +25,7 @@ use Rattle.spline.specs.Multiplicities.{Multiplicities, degree, extent, more}
 use Rattle.spline.specs.Multiplicities.{multiplicitiesOf, orderMultiplicities}
 use Rattle.spline.specs.Place.{Axis, Direction, Place, a1, a2, a3, along, diagonal}
 use Rattle.net.specs.Inner.GoodOrder.{GoodOrder}
-use Rattle.net.specs.Order.{badByte, orderPlaces, orderWidth}
+use Rattle.net.specs.Order.{badByte, orderNumber, orderPlaces, orderWidth}
 
 module _ (order : List ℕ) (good : GoodOrder order) where
   -- each byte of a good order is 1 to 4
@@ -81,6 +82,11 @@ prefix-limits order t n v e l h =
 module _ (order : List ℕ) (t : ℕ) (l : t < length order) where
   abbrev d : Direction
   d = direction (getD order t 0)
+
+  -- it is the first of those that are left
+  pub bytes-next : drop t order ≡ getD order t 0 ∷ drop (t + 1) order
+  bytes-next =
+      drop-cons order t 0 l ∙ ap (λ (n : ℕ). getD order t 0 ∷ drop n order) (sym (add-one t))
 
   directions-next : map direction (take (t + 1) order) ≡ map direction (take t order) ++ (d ∷ [])
   directions-next =
@@ -155,6 +161,10 @@ prefix-next order t =
     (prefix-places (take (t + 1) order) t)
 
 -- ---- the numbers of an order's net, and what a slice holds
+
+-- a slice with the net of an order in its first places
+abbrev pub netOver : List ℕ → List ℕ → List ℕ
+netOver order s = filled (orderNumber order) (orderPlaces order) s
 
 module _ (order : List ℕ) where
   -- no number of a net that at most 8 repeats build is above 9!

@@ -2,12 +2,12 @@
 use mathlib.Core.List.{List, map}
 use mathlib.Core.Path.{_∙_, _≡_, ap, refl, subst, sym}
 use Prim.Native.Nat.{_+_, _<_, _≤_, ℕ}
-use native.Mathlib.Nat.{le-trans}
+use native.Mathlib.Nat.{le-refl, le-trans}
 use native.Mathlib.Omega.{arith}
 use lib.IntN.{_-ℤ_, natAbs, pos, ℤ}
 use lib.ListN.{getD, length, length-map, take}
 use lib.Seq.{length-take-le}
-use Rattle.sums.proofs.Fill.{filled-at, filled-cong, length-filled}
+use Rattle.sums.proofs.Fill.{filled-at, filled-cong, length-filled, refill, take-filled}
 use Rattle.sums.proofs.Signed.{abs-diff}
 use Rattle.sums.proofs.Words.{signed-small, word-small}
 use Rattle.sums.specs.Fill.{filled}
@@ -26,8 +26,8 @@ use Rattle.differences.proofs.PassFits as First
 use Rattle.differences.specs.Pass.{difference, differencesOf, indexDifference}
 use Rattle.summations.proofs.PassFits as Second
 use Rattle.summations.specs.Pass.{edgeSum, lineNumber, sumsOf}
-use Rattle.net.proofs.Orders.{length-next, multiplicities-next, net-next, order-at-most}
-use Rattle.net.proofs.Orders.{prefix-limits, prefix-places, spread-order}
+use Rattle.net.proofs.Orders.{length-next, multiplicities-next, net-next, netOver, order-at-most}
+use Rattle.net.proofs.Orders.{prefix-limits, prefix-next, prefix-places, spread-order}
 use Rattle.net.proofs.Telescope.{edge-sum-at}
 use Rattle.net.specs.Inner.GoodOrder.{GoodOrder}
 use Rattle.net.specs.Order.{orderNumber, orderPlaces, orderWidth}
@@ -93,11 +93,25 @@ module _ (o : List ℕ) (good : GoodOrder o) (t : ℕ) (l : t < length o) where
       )
 
   -- the net slice holds what the bytes before it build
-  module _ (net : List ℕ) (work : List ℤ)
-      (net-room : orderPlaces o ≤ length net) (work-room : orderPlaces o ≤ length work)
-      (held : take (orderPlaces (take t o)) net ≡ netList (orderWidth (take t o)) G) where
+  module _ (base : List ℕ) (work : List ℤ)
+      (base-room : orderPlaces o ≤ length base) (work-room : orderPlaces o ≤ length work) where
+    abbrev net : List ℕ
+    net = netOver (take t o) base
+
+    net-room : orderPlaces o ≤ length net
+    net-room =
+        omega (
+          arith,
+          length-filled (orderNumber (take t o)) _ base (le-trans (prefix-places o t) base-room),
+          base-room,
+        )
+
     reads : spread (widths old) net ≡ G
-    reads = ap (λ (W : Axis → ℕ). spread W net) (shape-widths v) ∙ spread-order (take t o) net held
+    unfolding netList
+    reads =
+        ap (λ (W : Axis → ℕ). spread W net) (shape-widths v)
+        ∙ spread-order (take t o) net
+        (take-filled (orderNumber (take t o)) _ _ base (le-refl (orderPlaces (take t o))))
 
     new-room : (n : ℕ) → orderPlaces o ≤ n → places W ≤ n
     new-room n = room n (t + 1) new new-widths
@@ -134,11 +148,6 @@ module _ (o : List ℕ) (good : GoodOrder o) (t : ℕ) (l : t < length o) where
         ∙ ap (λ (H : Net). signedWord (word (difference d (degree v) H q))) reads
         ∙ signed-small (difference d (degree v) G q) (diff-small _ _ (small _) (small _))
 
-    -- the work slice keeps its length
-    pub between-length : length between ≡ length work
-    between-length =
-        ap length first-writes ∙ length-filled written (places W) work (new-room (length work) work-room)
-
     -- ---- the second half
 
     -- from the box's edge the differences sum to the numbers of the next net
@@ -161,23 +170,24 @@ module _ (o : List ℕ) (good : GoodOrder o) (t : ℕ) (l : t < length o) where
     second-writes =
         simp (Second.facts-fit new (length net) (length between)
         (boxes (t + 1) (more d v) next (omega arith)) (new-room (length net) net-room)
-        (new-room (length between) (omega (arith, between-length))))
+        (new-room (length between) (omega (arith, First.differences-length d old new net work))))
 
-    pub taken-up : netRepeated d v net work
-        ≡ filled (orderNumber (take (t + 1) o)) (orderPlaces (take (t + 1) o)) net
+    -- so both lead to the net of the order with this byte
+    pub taken-up : netRepeated d v net work ≡ netOver (take (t + 1) o) base
     taken-up =
         let C = orderNet (take (t + 1) o) in
         in-turn d v net work
         ∙ second-writes
         ∙ filled-cong _ (λ i. C (placeOf W i)) (places W) net number
         ∙ ap (λ (W : Axis → ℕ). filled (λ i. C (placeOf W i)) (places W) net) new-widths
+        ∙ refill (orderNumber (take (t + 1) o)) (orderNumber (take t o)) _ _ base (prefix-next o t)
 
-    -- each of them is the sum of the differences on its line, from the box's edge
+    -- each of its numbers is the sum of the differences on its line, from the box's edge
     pub summed : (i : ℕ) → i < places W
         → pos (getD (netRepeated d v net work) i 0) ≡ edgeSum d W between (placeOf W i)
     summed i r =
         ap (λ (s : List ℕ). pos (getD s i 0)) taken-up
-        ∙ ap pos (filled-at (orderNumber (take (t + 1) o)) (orderPlaces (take (t + 1) o)) net i 0 in-box)
+        ∙ ap pos (filled-at (orderNumber (take (t + 1) o)) (orderPlaces (take (t + 1) o)) base i 0 in-box)
         ∙ ap (λ (W : Axis → ℕ). pos (orderNet (take (t + 1) o) (placeOf W i))) (sym new-widths)
         ∙ sym (edge-sums i r)
       where

@@ -8,9 +8,9 @@ use native.Mathlib.Nat.{le-refl}
 use native.Mathlib.Omega.{arith}
 use lib.IntN.{+ℤ-comm, +ℤ-idl, -ℤ-+ℤ-cancel, _+ℤ_, _-ℤ_, pos, ℤ}
 use lib.ListN.{getD}
+use Rattle.sums.proofs.Cases.{by-order}
 use Rattle.sums.proofs.Places.{index-in, place-in}
 use Rattle.spline.proofs.Box.{placeOf-index}
-use Rattle.spline.proofs.Cases.{by-order}
 use Rattle.spline.proofs.Low.{Low, ZeroLow, stepped-low}
 use Rattle.spline.proofs.Solution.{stepped-obeys}
 use Rattle.spline.proofs.Steps.{⊖⊕}

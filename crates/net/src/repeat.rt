@@ -8,8 +8,8 @@ ghost use Rattle.spline.specs.Build.{direction};
 ghost use Rattle.spline.specs.Multiplicities.{more};
 ghost use Rattle.spline.specs.Inner.Limits.{Limits};
 ghost use Rattle.shape.specs.Shape.{counted};
-ghost use Rattle.net.specs.Order.{orderPlaces, orderNumber};
-ghost use Rattle.net.specs.Repeat.{workBetween, netRepeated};
+ghost use Rattle.net.specs.Order.{orderNumber};
+ghost use Rattle.net.specs.Repeat.{workBetween, netRepeated, takenUp};
 ghost use Rattle.net.specs.Inner.GoodOrder.{GoodOrder};
 use crate::direction;
 use shape::Counts;
@@ -54,12 +54,11 @@ fn take_up(c: Counts, d: u8, net: &mut [u32], work: &mut [i32]) -> Counts
 
 // Takes up all bytes of an order, from the simple net.
 pub(crate) fn run(order: &[u8], net: &mut [u32], work: &mut [i32])
-    requires { ⌜ GoodOrder (now order) ⌝ }
-    requires { ⌜ (orderPlaces (now order) ≤ length (now net))
-        × (orderPlaces (now order) ≤ length (now work)) ⌝ }
-    ensures { λ _. ⌜ now (net .exit)
-        ≡ filled (orderNumber (now (order .entry))) (orderPlaces (now (order .entry))) (now (net .entry)) ⌝ }
-    ensures { λ _. ⌜ length (now (work .exit)) ≡ length (now (work .entry)) ⌝ }
+    requires { ⌜ GoodOrder (now order) × (27 ≤ length (now net)) ⌝ }
+    ensures net { λ _. ⌜ now (net .exit)
+        ≡ takenUp (now (order .entry)) (now (net .entry)) (now (work .entry)) .net ⌝ }
+    ensures work { λ _. ⌜ now (work .exit)
+        ≡ takenUp (now (order .entry)) (now (net .entry)) (now (work .entry)) .work ⌝ }
 {
     lay_simple(net);
     let mut c = Counts {

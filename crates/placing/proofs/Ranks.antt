@@ -8,13 +8,13 @@ use native.Mathlib.Omega.{arith}
 use borrow.Author.Tests.{leb-false, leb-true}
 use lib.Dec.{leb}
 use lib.IntN.{ℤ}
-use Rattle.spline.specs.Place.{Axis, a1, a2, a3}
+use Rattle.spline.specs.Place.{Axis, a1, a2, a3, onAxes}
 use Rattle.unit.specs.declared.Unit.{Unit}
 use Rattle.placing.proofs.Cells.{remainder-most}
-use Rattle.placing.specs.Inner.Ranking.{Axes, inOrder, o123, o132, o213, o231, o312, o321}
-use Rattle.placing.specs.Inner.Ranking.{ranked, ranking, thirdAmong}
-use Rattle.placing.specs.Placing.{AxisRanks, axisNumber, axisRanks, distance, onAxes, placing}
-use Rattle.placing.specs.Placing.{rankAxes, weightSum, withThird}
+use Rattle.placing.specs.Inner.Ranking.{Axes, inOrder, o123, o132, o213, o231, o312, o321, ranked}
+use Rattle.placing.specs.Inner.Ranking.{ranking, thirdAmong}
+use Rattle.placing.specs.Placing.{AxisRanks, axisNumber, axisRanks, distance, placing, rankAxes}
+use Rattle.placing.specs.Placing.{weightSum, withThird}
 use Rattle.placing.specs.declared.ranking.Ranking.{Ranking}
 
 -- axis 3 among two others is ranked as the definition has it

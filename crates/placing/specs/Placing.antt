@@ -4,25 +4,15 @@ use Prim.Native.Nat.{_%_, _*_, _+_, _-_, _/_, ℕ}
 use lib.Dec.{eqb, leb}
 use lib.IntN.{_*ℤ_, _-ℤ_, natAbs, pos, ℤ}
 use Rattle.spline.specs.Multiplicities.{Multiplicities, extent}
-use Rattle.spline.specs.Place.{Axis, a1, a2, a3}
+use Rattle.spline.specs.Place.{Axis, a1, a2, a3, onAxes}
 use Rattle.unit.specs.declared.Unit.{Unit}
 use Rattle.placing.specs.declared.Located.{Located}
 use Rattle.placing.specs.declared.Placing.{Placing}
-
--- a number for each axis
-abbrev pub onAxes : ℕ → ℕ → ℕ → Axis → ℕ
-onAxes x y z a1 = x
-onAxes x y z a2 = y
-onAxes x y z a3 = z
 
 abbrev pub axisNumber : Axis → ℕ
 axisNumber a1 = 1
 axisNumber a2 = 2
 axisNumber a3 = 3
-
--- Section 4.3: the sizes of a unit's block
-abbrev pub sizes : Unit → Axis → ℕ
-sizes u = onAxes (u .n1) (u .n2) (u .n3)
 
 -- Section 9.1: a coordinate X, read from the origin o of its axis
 unfoldable pub fromOrigin : ℤ → ℤ → ℕ → ℤ

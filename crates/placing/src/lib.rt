@@ -1,23 +1,21 @@
 // Where a point lies: its cell, the ranks of the axes and the four weights; or the refusal that it meets.
 // Section 9.
-ghost use mathlib.Core.Path.{_≡_};
 ghost use mathlib.Core.Bool.{true};
+ghost use mathlib.Core.Path.{_≡_};
 ghost use Prim.Native.Nat.{_+_, _≤_};
 ghost use lib.IntN.{natAbs};
+ghost use Rattle.spline.specs.Place.{onAxes};
 ghost use Rattle.unit.specs.Checks.{passedOr};
-ghost use Rattle.unit.specs.Unit.{netOf, hasBlock};
+ghost use Rattle.unit.specs.Unit.{hasBlock, netOf, sizes};
 ghost use Rattle.placing.specs.Inner.Reading.{farthest};
+ghost use Rattle.placing.specs.Place.{cellCheck, placeAnswer, signCheck};
 ghost use Rattle.placing.specs.Placing.{blockCells, blockPlacing, fromOrigin, inside, insideOn};
-ghost use Rattle.placing.specs.Placing.{located, onAxes, placingOn, sizes};
-ghost use Rattle.placing.specs.Place.{cellCheck, lentChecks, placeAnswer, signCheck, unitChecks};
+ghost use Rattle.placing.specs.Placing.{located, placingOn, weightSum};
 ghost use Rattle.placing.specs.declared.PlacingAnswer.the-variants.{Placed, Refused};
-use shape::Counts;
 use unit::Checked;
 use unit::Refusal;
 use unit::Unit;
 
-pub mod divisor;
-pub mod possible;
 mod ranking;
 
 // k on the three axes, the axes in the order p, r, s, and the weights, whose sum is D. Any values may stand
@@ -34,6 +32,15 @@ pub struct Placing {
     pub l1: u32,
     pub l2: u32,
     pub l3: u32,
+}
+
+impl Placing {
+    // D, which the weights add up to; past 32 bits too.
+    pub fn divisor(self) -> u64
+        ensures { λ r. ⌜ r ≡ weightSum self ⌝ }
+    {
+        self.l0 as u64 + self.l1 as u64 + self.l2 as u64 + self.l3 as u64
+    }
 }
 
 // What a placing call answers.
@@ -112,19 +119,20 @@ fn placing_of(x: Located, y: Located, z: Located, divisor: u32) -> Placing
 
 // Whether a cell is inside on one axis, whose multiplicity is v.
 fn inside_on(v: u8, v4: u8, size: u16, k: u32) -> bool
-    requires { ⌜ 1 ≤ size ⌝ }
     ensures { λ r. ⌜ r ≡ insideOn (v + v4) size k ⌝ }
 {
     let k = k as usize;
     if k + 1 < v as usize + v4 as usize {
         return false;
     }
+    if k == 0 {
+        return true;
+    }
     k < size as usize
 }
 
 // Whether a cell is inside.
-fn is_inside(unit: Unit, k1: u32, k2: u32, k3: u32) -> bool
-    requires { ⌜ hasBlock unit ≡ true ⌝ }
+pub fn is_inside(unit: Unit, k1: u32, k2: u32, k3: u32) -> bool
     ensures { λ r. ⌜ r ≡ inside (netOf unit) (sizes unit) (onAxes k1 k2 k3) ⌝ }
 {
     if !inside_on(unit.v1, unit.v4, unit.n1, k1) {
@@ -138,40 +146,12 @@ fn is_inside(unit: Unit, k1: u32, k2: u32, k3: u32) -> bool
 
 // Check 12, of the cell.
 fn check_cell(unit: Unit, k1: u32, k2: u32, k3: u32) -> Checked
-    requires { ⌜ hasBlock unit ≡ true ⌝ }
     ensures { λ r. ⌜ r ≡ cellCheck (netOf unit) (sizes unit) (onAxes k1 k2 k3) ⌝ }
 {
     if !is_inside(unit, k1, k2, k3) {
         return Checked::stop(12, 0);
     }
     Checked::Passed
-}
-
-// Checks 21 and 22.
-pub fn check_unit(unit: Unit) -> Checked
-    ensures { λ r. ⌜ r ≡ unitChecks unit ⌝ }
-{
-    if !unit.holds_net() {
-        return Checked::stop(21, 0);
-    }
-    if !unit.holds_block() {
-        return Checked::stop(22, 0);
-    }
-    Checked::Passed
-}
-
-// Checks 21, 22, 4 and 9, by the lengths of the lent slices.
-pub fn check_lent(unit: Unit, net: usize, corrections: usize, uncertainties: usize) -> Checked
-    ensures { λ r. ⌜ r ≡ lentChecks unit net corrections uncertainties ⌝ }
-{
-    if let Checked::Stopped(refusal) = check_unit(unit) {
-        return Checked::Stopped(refusal);
-    }
-    if net < shape::places_of(Counts::of_unit(unit)) {
-        return Checked::stop(4, 0);
-    }
-    let n = shape::entries_of(unit.n1, unit.n2, unit.n3);
-    unit::check_block_room(n, corrections, uncertainties)
 }
 
 // The placing of a point by its distances from the origin, or 12.
@@ -193,10 +173,10 @@ fn place_in_block(unit: Unit, x: u32, y: u32, z: u32, divisor: u32) -> PlacingAn
 pub fn place(unit: Unit, x: i32, y: i32, z: i32, divisor: u32) -> PlacingAnswer
     ensures { λ r. ⌜ r ≡ placeAnswer unit x y z divisor ⌝ }
 {
-    if let Checked::Stopped(refusal) = check_unit(unit) {
+    if let Checked::Stopped(refusal) = limits::check_unit(unit) {
         return PlacingAnswer::Refused(refusal);
     }
-    if let Checked::Stopped(refusal) = divisor::check_divisor(unit, divisor) {
+    if let Checked::Stopped(refusal) = limits::check_divisor(unit, divisor as u64) {
         return PlacingAnswer::Refused(refusal);
     }
     let a = from_origin(x, unit.o1, divisor);

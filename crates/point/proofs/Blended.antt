@@ -1,28 +1,24 @@
 -- What a blending at a placing has left, as a call that sums its numbers needs it.
 use mathlib.Core.List.{List}
-use mathlib.Core.Path.{_∙_, _≡_, ap, subst, sym}
+use mathlib.Core.Path.{_∙_, _≡_, ap}
 use Prim.Native.Nat.{_<_, ℕ}
 use lib.IntN.{pos, ℤ}
 use lib.ListN.{getD}
-use mir.Syntax.{w32}
-use mir.Val.{SFits, ofZ, toZ}
 use Rattle.sums.proofs.Fill.{filled-at}
+use Rattle.sums.specs.Fill.{numberAt, signedAt}
 use Rattle.spline.specs.Multiplicities.{degree}
 use Rattle.unit.specs.Unit.{netOf}
 use Rattle.unit.specs.declared.Checked.{Checked}
 use Rattle.unit.specs.declared.Checked.the-variants.{Passed}
 use Rattle.unit.specs.declared.Unit.{Unit}
-use Rattle.placing.proofs.Origin.{handed-on}
-use Rattle.placing.specs.Place.{scale}
-use Rattle.placing.specs.Placing.{placing, weightSum}
+use Rattle.limits.specs.Limits.{scale}
+use Rattle.placing.specs.Placing.{weightSum}
 use Rattle.placing.specs.declared.Placing.{Placing}
-use Rattle.placing.specs.declared.PlacingAnswer.the-variants.{Placed}
 use Rattle.blending.proofs.Answers.{all-written}
-use Rattle.blending.specs.Blend.{Sized, blendAnswer, blendChecks, blendedCorrectionAt, blendedCorrections}
-use Rattle.blending.specs.Blend.{blendedUncertainties, blendedUncertaintyAt, numberAt, signedAt, writtenIf}
+use Rattle.blending.specs.Blend.{Sized, blendedCorrectionAt, blendedUncertaintyAt, writtenIf}
 use Rattle.blending.specs.LocalPlaces.{localPlaces}
-use Rattle.point.proofs.Answers.{blend-placed, fractionAt, scaled-of}
 use Rattle.point.proofs.Parts.{parts-are}
+use Rattle.point.specs.Answer.{fractionAt}
 use Rattle.point.specs.Inner.Parts.{BlendedSizes, fractionOf}
 use Rattle.point.specs.Inner.Weights.{Scaled}
 use Rattle.point.specs.declared.bernstein.Part.{Part}
@@ -80,43 +76,3 @@ module _ (u : Unit) (net : List ℕ) (corrections : List ℤ) (uncertainties : L
           (parts-are u q net (scaled .degree) corrections uncertainties (signedAt shifts) (numberAt spreads)
           shift-is spread-is);
     }
-
-  -- one of a point, that answers a placing, is at the point's; the coordinates were handed on to it
-  module _ {q : Placing} {shifts : List ℤ} {spreads : List ℕ} {x y z : ℤ} (D : ℕ) (d : List ℤ) (e : List ℕ)
-      (fx : SFits w32 x) (fy : SFits w32 y) (fz : SFits w32 z)
-      (answered : blendAnswer u net corrections uncertainties x y z D ≡ Placed q)
-      (shifts-are : shifts
-      ≡ blendedCorrections u net corrections uncertainties (toZ w32 (ofZ w32 x)) (toZ w32 (ofZ w32 y))
-      (toZ w32 (ofZ w32 z)) D d)
-      (spreads-are : spreads
-      ≡ blendedUncertainties u net corrections uncertainties (toZ w32 (ofZ w32 x)) (toZ w32 (ofZ w32 y))
-      (toZ w32 (ofZ w32 z)) D e)
-      (sized : Sized u net corrections uncertainties q) where
-    abbrev checks : Checked
-    checks = blendChecks u net corrections uncertainties x y z D
-
-    placed : (checks ≡ Passed) × (q ≡ placing u x y z D)
-    placed = blend-placed u net corrections uncertainties x y z D answered
-
-    shifts-at : shifts ≡ writtenIf checks (blendedCorrectionAt u net corrections (placing u x y z D)) u d
-    unfolding blendedCorrections
-    shifts-at =
-        shifts-are
-        ∙ handed-on (λ x y z. blendedCorrections u net corrections uncertainties x y z D d) fx fy fz
-
-    spreads-at : spreads
-        ≡ writtenIf checks (blendedUncertaintyAt u net uncertainties (placing u x y z D)) u e
-    unfolding blendedUncertainties
-    spreads-at =
-        spreads-are
-        ∙ handed-on (λ x y z. blendedUncertainties u net corrections uncertainties x y z D e) fx fy fz
-
-    pub blended-point : Blended q shifts spreads
-    blended-point =
-        let q-is = sym (placed .1) in
-        blended {k = checks} d e (placed .0)
-        (subst (Scaled m) q-is (scaled-of u net corrections uncertainties x y z D (placed .0)))
-        (subst (λ p. shifts ≡ writtenIf checks (blendedCorrectionAt u net corrections p) u d) q-is shifts-at)
-        (subst (λ p. spreads ≡ writtenIf checks (blendedUncertaintyAt u net uncertainties p) u e) q-is
-        spreads-at)
-        sized

@@ -10,16 +10,17 @@ use Rattle.sums.proofs.Simplex.{sum-tetrahedron, sumZ-tetrahedron}
 use Rattle.sums.proofs.Sum.{sum-cong, sum-le, sum-mul, sum-next, sum-part, sum-zero}
 use Rattle.sums.proofs.SumZ.{sumZ-cong, sumZ-next, sumZ-weighed, sumZ-zero}
 use Rattle.sums.specs.Coefficient.{factorial}
+use Rattle.sums.specs.Fill.{numberAt}
 use Rattle.sums.specs.Simplex.{sumSimplex, sumSimplexZ}
 use Rattle.sums.specs.Sum.{sumTo, sumZ}
 use Rattle.spline.specs.Multiplicities.{degree}
-use Rattle.unit.specs.Unit.{netOf}
+use Rattle.unit.specs.Unit.{netOf, sizes}
 use Rattle.unit.specs.declared.Unit.{Unit}
-use Rattle.placing.specs.Place.{limit}
-use Rattle.placing.specs.Placing.{placingCell, sizes}
+use Rattle.limits.specs.Limits.{limit}
+use Rattle.placing.specs.Placing.{placingCell}
 use Rattle.placing.specs.declared.Placing.{Placing}
 use Rattle.blending.proofs.Numbers.{count-is, local-is}
-use Rattle.blending.specs.Blend.{blendedCorrectionAt, blendedUncertaintyAt, correctionAt, localOf, numberAt}
+use Rattle.blending.specs.Blend.{blendedCorrectionAt, blendedUncertaintyAt, correctionAt, localOf}
 use Rattle.blending.specs.Blend.{uncertaintyAt}
 use Rattle.blending.specs.Blending.{blendedCorrection, blendedUncertainty}
 use Rattle.blending.specs.LocalPlaces.{localPlaces}

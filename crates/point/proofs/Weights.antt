@@ -21,16 +21,15 @@ use Rattle.sums.specs.Fill.{tabulate}
 use Rattle.sums.specs.Search.{allTo}
 use Rattle.sums.specs.Simplex.{bernstein, sumSimplex}
 use Rattle.sums.specs.Sum.{sumTo}
-use Rattle.placing.proofs.Scale.{scale-le}
-use Rattle.placing.specs.Place.{limit, scale}
+use Rattle.limits.proofs.Scale.{scale-le}
+use Rattle.limits.specs.Limits.{limit, scale}
 use Rattle.placing.specs.Placing.{weightSum}
 use Rattle.placing.specs.declared.Placing.{Placing}
 use Rattle.blending.proofs.Numbers.{count-is, local-is}
 use Rattle.blending.specs.LocalPlaces.{localPlaces}
 use Rattle.blending.specs.declared.local.LocalPlace.{LocalPlace}
 use Rattle.point.specs.Bernstein.{binomialTable, termWeight}
-use Rattle.point.specs.Inner.Weights.{Binomials, Powers, Scaled, Tables, WithinDegree, factor}
-use Rattle.point.specs.Inner.Weights.{weightAt}
+use Rattle.point.specs.Inner.Weights.{Binomials, Powers, Scaled, Tables, WithinDegree, factor, weightAt}
 
 -- powers as far as the n-th are powers as far as any k-th before it
 fewer : (n k l : ℕ) (x : ℕ → ℕ) → k ≤ n → Powers n l x → Powers k l x

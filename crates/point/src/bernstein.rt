@@ -1,14 +1,14 @@
 // The Bernstein sums N and U over the blended numbers of a point's local places.
 ghost use mathlib.Core.Path.{_≡_};
-ghost use Prim.Native.Nat.{ℕ, _+_, _*_, _-_, _^_, _≤_, _<_};
-ghost use lib.ListN.{getD};
+ghost use Prim.Native.Nat.{_*_, _+_, _-_, _<_, _^_, _≤_, ℕ};
 ghost use lib.IntN.{natAbs};
-ghost use Rattle.placing.specs.Place.{scale, limit};
+ghost use lib.ListN.{getD};
+ghost use Rattle.sums.specs.Fill.{numberAt, signedAt};
+ghost use Rattle.limits.specs.Limits.{limit, scale};
 ghost use Rattle.placing.specs.Placing.{weightSum};
-ghost use Rattle.blending.specs.Blend.{numberAt, signedAt};
 ghost use Rattle.point.specs.Bernstein.{binomialTable, termWeight};
-ghost use Rattle.point.specs.Inner.Weights.{Binomials, Scaled, Tables, WithinDegree, factor};
 ghost use Rattle.point.specs.Inner.Parts.{BlendedSizes, addParts, partsTo, weighed};
+ghost use Rattle.point.specs.Inner.Weights.{Binomials, Scaled, Tables, WithinDegree, factor};
 use blending::local;
 use blending::local::LocalPlace;
 use placing::Placing;

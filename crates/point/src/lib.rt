@@ -1,9 +1,9 @@
 // The exact answer at a rational point or at a placing: the Bernstein sums of its blended numbers, or the
 // refusal that applies. Section 11.
 ghost use mathlib.Core.Path.{_≡_};
+ghost use Rattle.sums.specs.Fill.{numberAt, signedAt};
 ghost use Rattle.spline.specs.Multiplicities.{degree};
 ghost use Rattle.unit.specs.Unit.{netOf};
-ghost use Rattle.blending.specs.Blend.{numberAt, signedAt};
 ghost use Rattle.point.specs.Answer.{pointAnswer, valuingAnswer};
 ghost use Rattle.point.specs.Inner.Parts.{BlendedSizes, fractionOf};
 ghost use Rattle.point.specs.Inner.Weights.{Scaled};
@@ -45,41 +45,6 @@ fn summed(unit: Unit, q: Placing, shifts: &[i64; 220], spreads: &[u64; 220]) -> 
     }
 }
 
-// The exact fraction at the point X, Y, Z over a divisor, or the first refusal that applies of 21, 22,
-// 4, 9, 10, 11, 12, 13, 23, with the lowest index of a gap for 13.
-pub fn answer(
-    unit: Unit,
-    net: &[u32],
-    corrections: &[i16],
-    uncertainties: &[u16],
-    x: i32,
-    y: i32,
-    z: i32,
-    divisor: u32,
-) -> PointAnswer
-    ensures { λ r. ⌜ r ≡ pointAnswer unit (now (net .entry)) (now (corrections .entry))
-        (now (uncertainties .entry)) x y z divisor ⌝ }
-{
-    let mut shifts = [0i64; 220];
-    let mut spreads = [0u64; 220];
-    let blended = blending::blend(
-        unit,
-        net,
-        corrections,
-        uncertainties,
-        x,
-        y,
-        z,
-        divisor,
-        &mut shifts,
-        &mut spreads,
-    );
-    match blended {
-        PlacingAnswer::Placed(q) => PointAnswer::Value(summed(unit, q, &shifts, &spreads)),
-        PlacingAnswer::Refused(refusal) => PointAnswer::Refused(refusal),
-    }
-}
-
 // The exact fraction at a placing, over the sum of its weights, or the first refusal that applies of 21, 22,
 // 17, 4, 9, 13, 23, with the lowest index of a gap for 13.
 pub fn value(
@@ -94,7 +59,7 @@ pub fn value(
 {
     let mut shifts = [0i64; 220];
     let mut spreads = [0u64; 220];
-    let blended = blending::blend_placed(
+    let blended = blending::blend(
         unit,
         net,
         corrections,
@@ -107,4 +72,37 @@ pub fn value(
         return PointAnswer::Refused(refusal);
     }
     PointAnswer::Value(summed(unit, q, &shifts, &spreads))
+}
+
+// The exact fraction at the point X, Y, Z over a divisor, or the first refusal that applies of 21, 22,
+// 4, 9, 10, 11, 12, 13, 23, with the lowest index of a gap for 13. The point is placed and valued; 4 and 9
+// stand before the refusals of placing, so where it is not placed they are looked at first.
+pub fn answer(
+    unit: Unit,
+    net: &[u32],
+    corrections: &[i16],
+    uncertainties: &[u16],
+    x: i32,
+    y: i32,
+    z: i32,
+    divisor: u32,
+) -> PointAnswer
+    ensures { λ r. ⌜ r ≡ pointAnswer unit (now (net .entry)) (now (corrections .entry))
+        (now (uncertainties .entry)) x y z divisor ⌝ }
+{
+    let placed = placing::place(unit, x, y, z, divisor);
+    match placed {
+        PlacingAnswer::Placed(q) => value(unit, net, corrections, uncertainties, q),
+        PlacingAnswer::Refused(refusal) => {
+            if let Checked::Stopped(first) = limits::check_lent(
+                unit,
+                net.len(),
+                corrections.len(),
+                uncertainties.len(),
+            ) {
+                return PointAnswer::Refused(first);
+            }
+            PointAnswer::Refused(refusal)
+        }
+    }
 }

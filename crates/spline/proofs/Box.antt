@@ -6,9 +6,9 @@ use native.Mathlib.Omega.{arith}
 use lib.IntN.{negsuc, pos, ℤ}
 use lib.ListN.{getD, length, take}
 use lib.Seq.{ext-getD, getD-take, length-take-le}
+use Rattle.sums.proofs.Cases.{by-ltb}
 use Rattle.sums.proofs.Fill.{length-tabulate, tabulate-at}
 use Rattle.sums.proofs.Places.{index-back, index-in, place-in, place-x, place-y, place-z}
-use Rattle.spline.proofs.Cases.{by-ltb}
 use Rattle.spline.proofs.Coordinates.{place-cong}
 use Rattle.spline.proofs.Low.{Low, ZeroLow}
 use Rattle.spline.proofs.Solution.{Below, Vanishes}

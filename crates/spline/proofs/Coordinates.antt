@@ -4,8 +4,8 @@ use mathlib.Core.Path.{_≡_}
 use Prim.Native.Nat.{_*_, _+_, _-_, _<_, _≤_, suc, zero, ℕ}
 use native.Mathlib.Omega.{arith}
 use lib.IntN.{negsuc, pos, predℤ, subℕ, ℤ}
+use Rattle.sums.proofs.Cases.{by-ltb}
 use Rattle.sums.proofs.Signed.{Is, is-as, is-pos, is-sub, same}
-use Rattle.spline.proofs.Cases.{by-ltb}
 use Rattle.spline.proofs.Solution.{Below}
 use Rattle.spline.proofs.Steps.{backIf}
 use Rattle.spline.specs.Place.{downIf, place}

@@ -1,18 +1,18 @@
 -- The laws of the defined net.
 use mathlib.Core.Path.{_∙_, _≡_, subst, sym}
-use Prim.Native.Nat.{_≤_, ℕ}
+use Prim.Native.Nat.{ℕ}
 use Rattle.sums.specs.Coefficient.{factorial}
 use Rattle.spline.proofs.Chain.{only}
 use Rattle.spline.proofs.Low.{ZeroLow}
 use Rattle.spline.proofs.Multiplicities.{Positive}
-use Rattle.spline.proofs.OrderNet.{order-high, order-le, order-low, order-unity}
+use Rattle.spline.proofs.OrderNet.{order-high, order-low, order-unity}
 use Rattle.spline.proofs.Orders.{defined-fewer, order-of-defined}
 use Rattle.spline.proofs.Solution.{Vanishes, stepped-obeys}
 use Rattle.spline.proofs.Support.{ZeroHigh}
 use Rattle.spline.proofs.Unity.{Unity}
 use Rattle.spline.specs.Defined.{defined, definedOrder}
 use Rattle.spline.specs.Multiplicities.{HasRepeat, Multiplicities, degree, extent, fewer}
-use Rattle.spline.specs.Place.{Direction, Net, Place}
+use Rattle.spline.specs.Place.{Direction, Net}
 use Rattle.spline.specs.Rule.{Obeys}
 
 -- it is 0 where a coordinate is not positive
@@ -27,13 +27,6 @@ module _ (v : Multiplicities) (p : Positive v) where
   defined-high =
       subst (λ (w : Multiplicities). ZeroHigh (degree w) (extent w) (defined v)) (order-of-defined v p)
       (order-high (definedOrder v))
-
-  -- no number is above m!
-  pub defined-le : (q : Place) → defined v q ≤ factorial (degree v)
-  unfolding defined
-  defined-le q =
-      subst (λ (w : Multiplicities). defined v q ≤ factorial (degree w)) (order-of-defined v p)
-      (order-le (definedOrder v) q)
 
   -- its numbers a whole degree apart add up to m!
   pub defined-unity : Unity (degree v) (extent v) (factorial (degree v)) (defined v)

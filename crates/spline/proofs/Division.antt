@@ -5,7 +5,7 @@ use native.Mathlib.Nat.{add-zero, div-add-mod, div-eq-of-lt, mod-eq-of-lt, mod-l
 use native.Mathlib.Nat.{mul-add-div, mul-add-mod-self-left, zero-lt-suc}
 use native.Mathlib.Omega.{arith}
 use lib.IntN.{*ℤ-comm, +ℤ-assoc, +ℤ-sucℤ, _*ℤ_, _+ℤ_, negsuc, negℤ, pos, sucℤ, sucℤ-*ℤ, ℤ}
-use Rattle.spline.proofs.Cases.{by-ltb}
+use Rattle.sums.proofs.Cases.{by-ltb}
 use Rattle.spline.specs.Place.{compose, floorDiv, floorMod}
 
 -- ---- m × k + u

@@ -1,4 +1,3 @@
-pub mod Cases
 pub mod Division
 pub mod Steps
 pub mod Coordinates

@@ -6,7 +6,7 @@ use Prim.Native.Nat.{_%_, _*_, _-_, _/_, _≤_, suc, zero, ℕ}
 use native.Mathlib.Nat.{zero-div, zero-mod}
 use native.Mathlib.Omega.{arith}
 use lib.IntN.{_+ℤ_, negsuc, negℤ, pos, ℤ}
-use Rattle.spline.proofs.Cases.{by-ltb}
+use Rattle.sums.proofs.Cases.{by-ltb}
 use Rattle.spline.proofs.Lowering.{lowerAbove-le}
 use Rattle.spline.specs.Build.{built, isOne, loweredPlace, simple, stepped, sumBack}
 use Rattle.spline.specs.Place.{Axis, Direction, Net, Place, _⊖_, a1, a2, a3, along, diagonal, moves}

@@ -7,7 +7,7 @@ use Prim.Native.Nat.{_+_, _-_, _<_, _≤_, suc, ℕ}
 use native.Mathlib.Omega.{arith}
 use lib.Dec.{T}
 use lib.IntN.{predℤ, suc-pred, sucℤ, ℤ}
-use Rattle.spline.proofs.Cases.{by-ltb, by-order}
+use Rattle.sums.proofs.Cases.{by-ltb, by-order}
 use Rattle.spline.proofs.Division.{compose-carry, compose-div-mod, compose-suc}
 use Rattle.spline.proofs.Division.{div-compose, mod-below, mod-compose}
 use Rattle.spline.proofs.Steps.{back, back-compose, back-stays, backIf, lowered-cells-back}

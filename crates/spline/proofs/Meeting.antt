@@ -7,7 +7,7 @@ use native.Mathlib.Decide.{ℕ-discrete}
 use native.Mathlib.Omega.{arith}
 use lib.Dec.{T}
 use lib.IntN.{ℤ}
-use Rattle.spline.proofs.Cases.{by-order}
+use Rattle.sums.proofs.Cases.{by-order}
 use Rattle.spline.proofs.Division.{mod-below}
 use Rattle.spline.proofs.Lowering.{above-lowers, below-stays, lowerAbove-comm, lowerAbove-le, lowerBy}
 use Rattle.spline.proofs.Lowering.{along-free, along-stuck, both-free, both-stuck}

@@ -7,7 +7,7 @@ use native.Mathlib.Omega.{arith}
 use lib.ListN.{length}
 use Rattle.spline.proofs.Commute.{commute}
 use Rattle.spline.proofs.Low.{ZeroLow, simple-low, stepped-low}
-use Rattle.spline.proofs.Multiplicities.{Positive, counts-decide, fewer-positive, more-fewer}
+use Rattle.spline.proofs.Multiplicities.{Positive, fewer-positive, more-fewer}
 use Rattle.spline.proofs.Multiplicities.{multiplicities-ext, order-degree, order-multiplicity}
 use Rattle.spline.proofs.Multiplicities.{order-positive}
 use Rattle.spline.specs.Build.{built, simple, stepped}
@@ -86,12 +86,6 @@ sorts (d ∷ ds) g G v =
 pub order-defined : (ds : List Direction) → built ds 1 simple ≡ defined (multiplicitiesOf ds)
 unfolding defined
 order-defined ds = sorts ds 1 simple simple-low
-
--- two whole orders that name each direction equally often build one net, the defined one
-pub orders-agree : (ds es : List Direction) → ((d : Direction) → count d ds ≡ count d es)
-    → (built ds 1 simple ≡ defined (multiplicitiesOf ds))
-    × (built es 1 simple ≡ defined (multiplicitiesOf ds))
-orders-agree ds es h = (order-defined ds, order-defined es ∙ ap defined (sym (counts-decide ds es h)))
 
 -- ---- the multiplicities of the defined order
 cond-none : (t : Bool) (c : ℕ) → c ≡ cond t (0 + c) c

@@ -37,6 +37,12 @@ place x y z a1 = x
 place x y z a2 = y
 place x y z a3 = z
 
+-- a number for each axis
+abbrev pub onAxes : ℕ → ℕ → ℕ → Axis → ℕ
+onAxes x y z a1 = x
+onAxes x y z a2 = y
+onAxes x y z a3 = z
+
 -- Section 3.1: a net, the number at every place
 abbrev pub Net : Type 0
 Net = Place → ℕ

@@ -1,3 +1,4 @@
 pub mod EdgeSums
+pub mod RowLoops
 pub mod LineRows
 pub mod PassFits

@@ -6,10 +6,8 @@ use Prim.Native.Nat.{_*_, _+_, _-_, _<_, _≤_, suc, zero, ℕ}
 use native.Mathlib.Nat.{mul-le-mul-right}
 use native.Mathlib.Omega.{arith}
 use lib.IntN.{+ℤ-idl, _+ℤ_, pos, ℤ}
-use lib.ListN.{getD, length, set}
-use Rattle.sums.proofs.Fill.{fill-store, filled-at}
+use lib.ListN.{getD}
 use Rattle.sums.proofs.Words.{word-add}
-use Rattle.sums.specs.Fill.{filled}
 use Rattle.sums.specs.Word.{word}
 use Rattle.spline.proofs.Box.{placeOf-index}
 use Rattle.spline.specs.Box.{index, placeOf}
@@ -17,28 +15,9 @@ use Rattle.spline.specs.Build.{direction}
 use Rattle.spline.specs.Place.{Axis, Direction, Place, a1, a2, a3, place}
 use Rattle.shape.proofs.Directions.{component-le, component-some}
 use Rattle.summations.proofs.EdgeSums.{edge-inside, edge-outside}
-use Rattle.summations.specs.Inner.Rows.{RowSums}
 use Rattle.summations.specs.Pass.{edgeSum, lineNumber}
 use Rattle.shape.specs.Direction.{component, vectorOf}
 use Rattle.shape.specs.declared.Vector.{Vector}
-
--- ---- a turn of a loop over some places of a row
-module _ {prior : (ℕ → ℕ) → ℕ → ℕ} {a e : ℕ} {work : List ℤ} {net₀ : List ℕ} (r : RowSums prior a e work net₀)
-    (i : ℕ) (low : a ≤ i) (high : i < e) (n : ℕ) (b : ℤ) (v : ℕ)
-    (en : n ≡ prior (r .number) i) (eb : b ≡ getD work i (pos 0)) (ev : v ≡ word (pos n +ℤ b)) where
-  -- the number found and the entry make the next number
-  pub summed : v ≡ r .number i
-  summed = ev ∙ rw (en, eb) (sym (r .sums i low high))
-
-  -- and it is stored after those before it
-  pub stored : (net : List ℕ) → net ≡ filled (r .number) i net₀ → e ≤ length net₀
-      → set net i v ≡ filled (r .number) (i + 1) net₀
-  stored net h room = ap (λ (w : List ℕ). set w i v) h ∙ fill-store (r .number) i net₀ v (omega arith) summed
-
--- a number that was written before
-pub found : (f : ℕ → ℕ) (i : ℕ) (net₀ net : List ℕ) (k : ℕ) → net ≡ filled f i net₀ → k < i
-    → getD net k 0 ≡ f k
-found f i net₀ net k h l = ap (λ (w : List ℕ). getD w k 0) h ∙ filled-at f i net₀ k 0 l
 
 -- ---- the row (y, z)
 -- the index of a place is that of the place one vector before it, and the vector's own

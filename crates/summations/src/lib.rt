@@ -1,7 +1,7 @@
 // The second half of a repeat, integration: the differences are summed along each line of the direction, from
 // the box's edge, into the net slice. docs/SPECIFICATION.md, Section 6.3.
 ghost use mathlib.Core.Path.{_≡_};
-ghost use Prim.Native.Nat.{_+_, _*_, _≤_, _<_};
+ghost use Prim.Native.Nat.{_≤_};
 ghost use lib.ListN.{length};
 ghost use Rattle.sums.specs.Fill.{filled};
 ghost use Rattle.spline.specs.Build.{direction};
@@ -14,23 +14,6 @@ mod row;
 
 use shape::Shape;
 
-// Sums the layer z, where those before it are summed.
-fn sum_layer(net: &mut [u32], work: &[i32], s: Shape, d: u8, z: usize)
-    requires { ⌜ Boxed s × (z < s .w3) ⌝ }
-    requires { ⌜ (places (widths s) ≤ length (now net)) × (places (widths s) ≤ length (now work)) ⌝ }
-    requires { ⌜ now net
-        ≡ filled (lineNumber (direction d) (widths s) (now work)) (s .w1 * (s .w2 * z)) (now net) ⌝ }
-    ensures { λ _. ⌜ now (net .exit) ≡ filled (lineNumber (direction d) (widths s) (now (work .entry)))
-        (s .w1 * (s .w2 * (z + 1))) (now (net .entry)) ⌝ }
-{
-    let w2 = s.w2;
-    let mut y = 0;
-    while y < w2 {
-        row::sum_row(net, work, s, d, y, z);
-        y += 1;
-    }
-}
-
 // Sums the first places of the work slice into those of the net slice, in index order.
 fn sum_box(net: &mut [u32], work: &[i32], s: Shape, d: u8)
     requires { ⌜ Boxed s
@@ -38,10 +21,15 @@ fn sum_box(net: &mut [u32], work: &[i32], s: Shape, d: u8)
     ensures { λ _. ⌜ now (net .exit) ≡ filled (lineNumber (direction d) (widths s) (now (work .entry)))
         (places (widths s)) (now (net .entry)) ⌝ }
 {
+    let w2 = s.w2;
     let w3 = s.w3;
     let mut z = 0;
     while z < w3 {
-        sum_layer(net, work, s, d, z);
+        let mut y = 0;
+        while y < w2 {
+            row::sum_row(net, work, s, d, y, z);
+            y += 1;
+        }
         z += 1;
     }
 }
@@ -56,11 +44,16 @@ fn fits(s: Shape, net: usize, work: usize) -> bool
     shape::is_held(s, work)
 }
 
-// Sums the entries of the work slice along the lines of direction d in a box.
-pub fn integrate(s: Shape, d: u8, net: &mut [u32], work: &[i32])
-    ensures { λ _. ⌜ now (net .exit) ≡ sumsOf (direction d) s (now (net .entry)) (now (work .entry)) ⌝ }
+// Sums the entries of the work slice along the lines of direction d in a box. Answers whether all fits;
+// where it does not, nothing is written.
+pub fn integrate(s: Shape, d: u8, net: &mut [u32], work: &[i32]) -> bool
+    ensures answer { λ r. ⌜ r ≡ sumsFit s (length (now (net .entry))) (length (now (work .entry))) ⌝ }
+    ensures net { λ _. ⌜ now (net .exit)
+        ≡ sumsOf (direction d) s (now (net .entry)) (now (work .entry)) ⌝ }
 {
-    if fits(s, net.len(), work.len()) {
+    let fit = fits(s, net.len(), work.len());
+    if fit {
         sum_box(net, work, s, d);
     }
+    fit
 }

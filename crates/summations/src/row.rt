@@ -2,7 +2,7 @@
 ghost use mathlib.Core.Path.{_≡_};
 ghost use mathlib.Core.Logic.{_⊎_};
 ghost use Prim.Native.Nat.{ℕ, _+_, _*_, _≤_, _<_};
-ghost use lib.ListN.{length};
+ghost use lib.ListN.{length, getD, set};
 ghost use lib.IntN.{pos, _+ℤ_};
 ghost use Rattle.sums.specs.Fill.{filled};
 ghost use Rattle.sums.specs.Word.{word};
@@ -33,6 +33,17 @@ fn plus(a: u32, b: i32) -> u32
     (raised(a, b) % WORD) as u32
 }
 
+// Writes the number at i, the sum of n and of the entry there, and answers it.
+fn put(net: &mut [u32], work: &[i32], i: usize, n: u32) -> u32
+    requires { ⌜ (i < length (now net)) × (i < length (now work)) ⌝ }
+    ensures { λ r. ⌜ r ≡ word (pos n +ℤ getD (now (work .entry)) i (pos 0)) ⌝ }
+    ensures { λ r. ⌜ now (net .exit) ≡ set (now (net .entry)) i r ⌝ }
+{
+    let t = plus(n, work[i]);
+    net[i] = t;
+    t
+}
+
 // Places from which one step back of the direction leaves the box: the entries themselves.
 fn sum_edge(net: &mut [u32], work: &[i32], a: usize, e: usize)
     requires { ⌜ (a ≤ e) × (e ≤ length (now net)) × (e ≤ length (now work)) ⌝ }
@@ -41,7 +52,7 @@ fn sum_edge(net: &mut [u32], work: &[i32], a: usize, e: usize)
 {
     let mut i = a;
     while i < e {
-        net[i] = plus(0, work[i]);
+        put(net, work, i, 0);
         i += 1;
     }
 }
@@ -55,8 +66,7 @@ fn sum_along(net: &mut [u32], work: &[i32], a: usize, e: usize)
     let mut t = net[a - 1];
     let mut i = a;
     while i < e {
-        t = plus(t, work[i]);
-        net[i] = t;
+        t = put(net, work, i, t);
         i += 1;
     }
 }
@@ -70,7 +80,8 @@ fn sum_back(net: &mut [u32], work: &[i32], a: usize, e: usize, back: usize)
 {
     let mut i = a;
     while i < e {
-        net[i] = plus(net[i - back], work[i]);
+        let n = net[i - back];
+        put(net, work, i, n);
         i += 1;
     }
 }

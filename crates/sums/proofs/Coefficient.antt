@@ -1,9 +1,9 @@
 -- Laws of factorials, binomial and multinomial coefficients.
-use mathlib.Core.Path.{_≡_, refl, sym, ap}
-use Prim.Native.Nat.{ℕ, zero, suc, _+_, _*_, _-_, _≤_, _<_}
-use native.Mathlib.Nat.{le-add-right, mul-pos, mul-le-mul-left, mul-le-mul-right, div-eq-of-eq-mul-left}
+use mathlib.Core.Path.{_≡_, ap, refl, sym}
+use Prim.Native.Nat.{_*_, _+_, _-_, _<_, _≤_, suc, zero, ℕ}
+use native.Mathlib.Nat.{div-eq-of-eq-mul-left, le-add-right, mul-le-mul-left, mul-le-mul-right, mul-pos}
 use native.Mathlib.Omega.{arith}
-use Rattle.sums.specs.Coefficient.{factorial, binomial, multinomial}
+use Rattle.sums.specs.Coefficient.{binomial, factorial, multinomial}
 
 -- ---- Pascal's rule
 -- the binomial coefficient by Pascal's rule, with no division

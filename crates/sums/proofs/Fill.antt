@@ -1,15 +1,15 @@
 -- Laws of the lists that a filling loop makes.
-use mathlib.Core.Path.{_≡_, refl, sym, ap, _∙_}
+use mathlib.Core.Bool.{Bool, cond, false, true}
+use mathlib.Core.List.{List, [], _++_, _∷_, append-assoc}
 use mathlib.Core.Logic.{⊎-elim}
-use mathlib.Core.List.{List, [], _∷_, _++_, append-assoc}
-use Prim.Native.Nat.{ℕ, zero, suc, _+_, _-_, _≤_, _<_}
-use native.Mathlib.Nat.{le-refl, le-suc-iff, add-zero, add-suc}
+use mathlib.Core.Path.{_∙_, _≡_, ap, refl, sym}
+use Prim.Native.Nat.{_+_, _-_, _<_, _≤_, suc, zero, ℕ}
+use native.Mathlib.Nat.{le-refl, le-suc-iff}
 use native.Mathlib.Numerals.{add-one}
 use native.Mathlib.Omega.{arith}
-use lib.ListN.{length, take, drop, getD, set, length-append, length-drop, List·getD-append}
-use lib.Seq.{drop-cons, drop-drop, drop-length, drop-append-le, drop-append-add}
-use lib.Seq.{take-append-le, take-length, set-at, getD-at, ext-getD}
-use Rattle.sums.specs.Fill.{tabulate, filled}
+use lib.ListN.{List·getD-append, drop, getD, length, length-append, length-drop, set, take}
+use lib.Seq.{drop-append-add, drop-cons, drop-drop, ext-getD, getD-at, set-at, take-append-le, take-length}
+use Rattle.sums.specs.Fill.{filled, tabulate}
 
 -- only the values below n count
 pub tabulate-cong : {A : Type 0} (f g : ℕ → A) (n : ℕ) → ((i : ℕ) → i < n → f i ≡ g i)
@@ -48,7 +48,7 @@ module _ {A : Type 0} (f : ℕ → A) where
       getD-at (tabulate f n) (f n) [] z i (length-tabulate n ∙ sym e′) ∙ ap f (sym e′))
       (le-suc-iff .0 h)
 
-  -- its first k values, and those after them
+  -- its first k values
   pub take-tabulate : (k n : ℕ) → k ≤ n → take k (tabulate f n) ≡ tabulate f k
   unfolding tabulate
   take-tabulate k zero h = let e : k ≡ 0 = omega arith in rw e
@@ -61,17 +61,6 @@ module _ {A : Type 0} (f : ℕ → A) where
       ∙ take-length (tabulate f (suc n))
       ∙ ap (tabulate f) (sym e))
       (le-suc-iff .0 h)
-
-  pub drop-tabulate : (k n : ℕ) → drop k (tabulate f (k + n)) ≡ tabulate (λ i. f (k + i)) n
-  unfolding tabulate
-  drop-tabulate k zero =
-      ap (λ (i : ℕ). drop i (tabulate f (k + 0))) (sym (add-zero k) ∙ sym (length-tabulate (k + 0)))
-      ∙ drop-length (tabulate f (k + 0))
-  drop-tabulate k (suc n) =
-      let within : k ≤ length (tabulate f (k + n)) = omega (arith, length-tabulate (k + n)) in
-      rw (add-suc k n)
-      (drop-append-le k (tabulate f (k + n)) (f (k + n) ∷ []) within
-      ∙ ap (λ (l : List A). l ++ (f (k + n) ∷ [])) (drop-tabulate k n))
 
   -- ---- filled lists
   -- nothing is filled before a loop's first turn
@@ -102,6 +91,12 @@ module _ {A : Type 0} (f : ℕ → A) where
   unfolding filled
   length-filled n d h =
       omega (arith, length-append (tabulate f n) (drop n d), length-tabulate n, length-drop n d)
+
+  -- so does filling by a test that passes only where there is room
+  pub length-filled-if : (n : ℕ) (d : List A) (b : Bool) → (b ≡ true → n ≤ length d)
+      → length (cond b (filled f n d) d) ≡ length d
+  length-filled-if n d true h = length-filled n d (h refl)
+  length-filled-if n d false h = refl
 
   -- the filled places, and those past them
   pub take-filled : (k n : ℕ) (d : List A) → k ≤ n → take k (filled f n d) ≡ tabulate f k

@@ -1,3 +1,4 @@
+pub mod Cases
 pub mod Fill
 pub mod Search
 pub mod Sum
@@ -9,3 +10,4 @@ pub mod Multinomial
 pub mod Simplex
 pub mod Places
 pub mod Words
+pub mod Steps

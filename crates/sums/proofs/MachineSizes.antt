@@ -1,13 +1,13 @@
 -- Machine integers by their sizes.
 use mathlib.Core.Path.{_≡_}
-use Prim.Native.Nat.{ℕ, _*_, _^_, _<_, _≤_}
+use Prim.Native.Nat.{_*_, _<_, _^_, _≤_, ℕ}
 use native.Mathlib.Nat.{lt-of-le-of-lt}
 use native.Mathlib.Omega.{arith}
-use lib.IntN.{ℤ, pos, _*ℤ_, natAbs}
+use lib.IntN.{_*ℤ_, natAbs, pos, ℤ}
 use lib.Signed.{natAbs-le}
-use mir.Syntax.{Width}
-use mir.Val.{SFits, toZ, ofZ, hbits}
 use mir.Facts.{toZ-ofZ, toZ-pos}
+use mir.Syntax.{Width}
+use mir.Val.{SFits, hbits, ofZ, toZ}
 use Rattle.sums.proofs.Signed.{abs-mul, mag-le}
 
 -- a number fits by its size

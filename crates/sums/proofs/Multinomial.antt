@@ -1,16 +1,16 @@
 -- Sums over all (b0, b1, b2, b3) with the sum m, and the multinomial theorem.
-use mathlib.Core.Path.{_≡_, ap, _∙_}
-use Prim.Native.Nat.{ℕ, zero, suc, _+_, _*_, _-_, _^_}
-use native.Mathlib.Nat.{suc-sub-suc, sub-zero, pow-zero, pow-succ'}
+use mathlib.Core.Path.{_∙_, _≡_, ap}
+use Prim.Native.Nat.{_*_, _+_, _-_, _^_, suc, zero, ℕ}
+use native.Mathlib.Nat.{pow-succ', pow-zero, sub-zero, suc-sub-suc}
 use native.Mathlib.Omega.{arith}
-use lib.IntN.{ℤ, pos, _*ℤ_}
-use Rattle.sums.specs.Sum.{sumTo, sumZ}
-use Rattle.sums.specs.Coefficient.{binomial}
-use Rattle.sums.specs.Simplex.{sumSimplex, sumSimplexZ, bernstein}
-use Rattle.sums.proofs.Sum.{sum-zero, sum-suc, sum-first, sum-cong, sum-add, sum-mul}
+use lib.IntN.{_*ℤ_, pos, ℤ}
+use Rattle.sums.proofs.Coefficient.{binomial-choose, choose, choose-over, choose-suc, choose-zero}
+use Rattle.sums.proofs.Coefficient.{multinomial-binomial}
+use Rattle.sums.proofs.Sum.{sum-add, sum-cong, sum-first, sum-mul, sum-suc, sum-zero}
 use Rattle.sums.proofs.SumZ.{sumZ-cong, sumZ-mul, sumZ-pos}
-use Rattle.sums.proofs.Coefficient.{choose, choose-zero, choose-suc, choose-over}
-use Rattle.sums.proofs.Coefficient.{binomial-choose, multinomial-binomial}
+use Rattle.sums.specs.Coefficient.{binomial}
+use Rattle.sums.specs.Simplex.{bernstein, sumSimplex, sumSimplexZ}
+use Rattle.sums.specs.Sum.{sumTo, sumZ}
 
 -- ---- sums over the simplex
 

@@ -1,8 +1,8 @@
 -- Indices x + w1 (y + w2 z) of the places of a box, and the places back from them.
-use mathlib.Core.Path.{_≡_, ap, _∙_}
-use Prim.Native.Nat.{ℕ, zero, suc, _+_, _*_, _/_, _%_, _≤_, _<_}
-use native.Mathlib.Nat.{mul-le-mul, mul-le-mul-left, mod-lt, mod-add-div, mod-eq-of-lt, zero-add}
-use native.Mathlib.Nat.{add-mul-mod-self-left, add-mul-div-left, div-eq-of-lt, div-lt-iff-lt-mul}
+use mathlib.Core.Path.{_∙_, _≡_, ap}
+use Prim.Native.Nat.{_%_, _*_, _+_, _/_, _<_, _≤_, suc, zero, ℕ}
+use native.Mathlib.Nat.{add-mul-div-left, add-mul-mod-self-left, div-eq-of-lt, div-lt-iff-lt-mul, mod-add-div}
+use native.Mathlib.Nat.{mod-eq-of-lt, mod-lt, mul-le-mul, mul-le-mul-left, zero-add}
 use native.Mathlib.Omega.{arith}
 
 -- a place of a sheet has its index within it

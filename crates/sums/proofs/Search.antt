@@ -1,12 +1,12 @@
 -- Laws of the tests of every number below n, and of the lowest that passes one.
-use mathlib.Core.Path.{_≡_, refl, sym, ap, _∙_}
-use mathlib.Core.Bool.{Bool, true, false, cond, _&&_}
+use mathlib.Core.Bool.{Bool, _&&_, cond, false, true}
 use mathlib.Core.Logic.{_⊎_, inl, inr, ⊎-elim}
-use Prim.Native.Nat.{ℕ, zero, suc, _+_, _-_, _≤_, _<_}
-use native.Mathlib.Nat.{le-suc-iff, add-zero, add-suc}
+use mathlib.Core.Path.{_∙_, _≡_, ap, refl, sym}
+use Prim.Native.Nat.{_+_, _-_, _<_, _≤_, suc, zero, ℕ}
+use native.Mathlib.Nat.{add-suc, add-zero, le-suc-iff}
 use native.Mathlib.Numerals.{add-one}
 use native.Mathlib.Omega.{arith}
-use Rattle.sums.specs.Search.{allTo, Found, nowhere, at, orElse, first}
+use Rattle.sums.specs.Search.{Found, allTo, at, first, nowhere, orElse}
 
 -- a test does not both pass and fail
 pub false-true : false ≡ true → ⊥

@@ -1,12 +1,12 @@
 -- Laws of ℤ: the ring, sizes, and order, by way of differences of naturals.
-use mathlib.Core.Path.{_≡_, refl, ap}
-use mathlib.Core.Bool.{Bool, true, false, not, cond}
-use Prim.Native.Nat.{ℕ, zero, suc, _+_, _*_, _-_, _≤_}
+use mathlib.Core.Bool.{Bool, cond, false, not, true}
+use mathlib.Core.Path.{_≡_, ap, refl}
+use Prim.Native.Nat.{_*_, _+_, _-_, _≤_, suc, zero, ℕ}
 use native.Mathlib.Nat.{le-refl}
 use native.Mathlib.Omega.{arith}
-use lib.Dec.{T, ltb, ltb→lt, nltb→le, le→leb, leb→le}
-use lib.IntN.{ℤ, pos, negsuc, negℤ, _+ℤ_, _-ℤ_, _*ℤ_, subℕ, natAbs}
-use lib.Signed.{mag, _≤ℤ_}
+use lib.Dec.{T, leb→le, le→leb, ltb, ltb→lt, nltb→le}
+use lib.IntN.{_*ℤ_, _+ℤ_, _-ℤ_, natAbs, negsuc, negℤ, pos, subℕ, ℤ}
+use lib.Signed.{_≤ℤ_, mag}
 
 -- the two halves of an integer: z is `up z` − `down z`
 abbrev pub up : ℤ → ℕ
@@ -89,18 +89,11 @@ is-mul {z = negsuc m} {w = negsuc n} {a = a} {b = b} {c = c} {d = d} h k =
 
 -- ---- the ring's laws, each by its halves
 
--- a product distributes over a sum, from the left
+-- a product distributes over a sum
 pub *ℤ-+ℤ : (x y z : ℤ) → x *ℤ (y +ℤ z) ≡ x *ℤ y +ℤ x *ℤ z
 *ℤ-+ℤ x y z = same
     (is-mul (own x) (is-add (own y) (own z)))
     (is-add (is-mul (own x) (own y)) (is-mul (own x) (own z)))
-    (omega arith)
-
--- from the right
-pub +ℤ-*ℤ : (x y z : ℤ) → (x +ℤ y) *ℤ z ≡ x *ℤ z +ℤ y *ℤ z
-+ℤ-*ℤ x y z = same
-    (is-mul (is-add (own x) (own y)) (own z))
-    (is-add (is-mul (own x) (own z)) (is-mul (own y) (own z)))
     (omega arith)
 
 -- products can be regrouped
@@ -108,13 +101,6 @@ pub *ℤ-assoc : (x y z : ℤ) → x *ℤ y *ℤ z ≡ x *ℤ (y *ℤ z)
 *ℤ-assoc x y z = same
     (is-mul (is-mul (own x) (own y)) (own z))
     (is-mul (own x) (is-mul (own y) (own z)))
-    (omega arith)
-
--- in a sum of four the inner two can be exchanged
-pub +ℤ-swap : (a b c d : ℤ) → a +ℤ b +ℤ (c +ℤ d) ≡ a +ℤ c +ℤ (b +ℤ d)
-+ℤ-swap a b c d = same
-    (is-add (is-add (own a) (own b)) (is-add (own c) (own d)))
-    (is-add (is-add (own a) (own c)) (is-add (own b) (own d)))
     (omega arith)
 
 -- ---- size

@@ -1,16 +1,16 @@
 -- The numbers 0 ≤ s ≤ r ≤ p < n one after the other, by p, then by r, then by s: p, r, s stands at
 -- tetrahedron p + (triangle r + s), and sums over them are sums over these positions.
 use mathlib.Core.Bool.{Bool, _&&_, false, true}
+use mathlib.Core.Logic.{⊎-elim}
 use mathlib.Core.Path.{_∙_, _≡_, ap, ap₂, refl}
 use Prim.Native.Nat.{_+_, _≤_, suc, zero, ℕ}
 use native.Mathlib.Nat.{add-suc, add-zero, le-suc-iff}
 use native.Mathlib.Omega.{arith}
-use mathlib.Core.Logic.{⊎-elim}
 use lib.IntN.{_+ℤ_, ℤ}
-use Rattle.sums.specs.Search.{allTo}
-use Rattle.sums.specs.Sum.{sumTo, sumZ}
 use Rattle.sums.proofs.Sum.{sum-split}
 use Rattle.sums.proofs.SumZ.{sumZ-split}
+use Rattle.sums.specs.Search.{allTo}
+use Rattle.sums.specs.Sum.{sumTo, sumZ}
 
 -- 1 + .. + n
 unfoldable pub triangle : ℕ → ℕ

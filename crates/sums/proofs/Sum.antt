@@ -1,11 +1,11 @@
 -- Laws of finite sums over ℕ.
-use mathlib.Core.Path.{_≡_, refl, sym, ap, ap₂, _∙_}
 use mathlib.Core.Logic.{⊎-elim}
-use Prim.Native.Nat.{ℕ, zero, suc, _+_, _*_, _-_, _≤_, _<_}
-use native.Mathlib.Nat.{le-refl, le-suc-iff, add-zero, add-suc}
+use mathlib.Core.Path.{_∙_, _≡_, ap, ap₂, refl}
+use Prim.Native.Nat.{_*_, _+_, _-_, _<_, _≤_, suc, zero, ℕ}
+use native.Mathlib.Nat.{add-suc, add-zero, le-refl, le-suc-iff}
 use native.Mathlib.Numerals.{add-one}
 use native.Mathlib.Omega.{arith}
-use Rattle.sums.specs.Sum.{sumTo, sumBox}
+use Rattle.sums.specs.Sum.{sumBox, sumTo}
 
 -- ---- sums up to n
 
@@ -72,15 +72,6 @@ sum-mirror (suc n) f =
     let e : suc n - 1 - 0 ≡ n = omega arith in
     let rest = sum-cong n (λ k. f (suc n - 1 - suc k)) (λ k. f (n - 1 - k)) (λ k l. ap f (omega arith)) in
     sum-first n (λ k. f (suc n - 1 - k)) ∙ rw (e, rest, sum-mirror n f) (omega arith)
-
--- rows first or columns first
-pub sum-swap : (n m : ℕ) (f : ℕ → ℕ → ℕ)
-    → sumTo n (λ i. sumTo m (λ j. f i j)) ≡ sumTo m (λ j. sumTo n (λ i. f i j))
-unfolding sumTo
-sum-swap zero m f = sym (sum-nil m)
-sum-swap (suc n) m f =
-    ap (λ (x : ℕ). x + sumTo m (λ j. f n j)) (sum-swap n m f)
-    ∙ sym (sum-add m (λ j. sumTo n (λ i. f i j)) (λ j. f n j))
 
 -- no larger term by term, no larger in all
 pub sum-le : (n : ℕ) (f g : ℕ → ℕ) → ((k : ℕ) → k < n → f k ≤ g k) → sumTo n f ≤ sumTo n g

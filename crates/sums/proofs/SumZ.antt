@@ -1,14 +1,13 @@
 -- Laws of finite sums over ℤ, and their sizes.
-use mathlib.Core.Path.{_≡_, refl, sym, ap, ap₂, _∙_}
-use Prim.Native.Nat.{ℕ, zero, suc, _+_, _*_, _-_, _≤_, _<_}
-use native.Mathlib.Nat.{le-refl, add-zero, add-suc}
+use mathlib.Core.Path.{_∙_, _≡_, ap, ap₂, refl, sym}
+use Prim.Native.Nat.{_*_, _+_, _-_, _<_, _≤_, suc, zero, ℕ}
+use native.Mathlib.Nat.{add-suc, add-zero, le-refl}
 use native.Mathlib.Numerals.{add-one}
 use native.Mathlib.Omega.{arith}
-use lib.IntN.{ℤ, pos, _+ℤ_, _*ℤ_, natAbs}
-use lib.IntN.{+ℤ-idr, +ℤ-idl, +ℤ-assoc, +ℤ-comm, *ℤ-zero, *ℤ-comm, zero-*ℤ, sucℤ-*ℤ}
-use Rattle.sums.specs.Sum.{sumTo, sumZ, sumBox, sumBoxZ}
+use lib.IntN.{*ℤ-comm, *ℤ-zero, +ℤ-assoc, +ℤ-comm, +ℤ-idl, +ℤ-idr, _*ℤ_, _+ℤ_, natAbs, pos, ℤ}
+use Rattle.sums.proofs.Signed.{*ℤ-+ℤ, abs-add}
 use Rattle.sums.proofs.Sum.{Inside, sum-mul}
-use Rattle.sums.proofs.Signed.{Is, is-pos, is-add, +ℤ-swap, *ℤ-+ℤ, +ℤ-*ℤ, abs-add}
+use Rattle.sums.specs.Sum.{sumBox, sumBoxZ, sumTo, sumZ}
 
 -- ---- sums up to n
 
@@ -33,33 +32,11 @@ sumZ-cong zero f g h = refl
 sumZ-cong (suc n) f g h =
     ap₂ (λ (a b : ℤ). a +ℤ b) (sumZ-cong n f g (λ k l. h k (omega arith))) (h n (omega arith))
 
--- a sum of sums
-pub sumZ-add : (n : ℕ) (f g : ℕ → ℤ) → sumZ n (λ k. f k +ℤ g k) ≡ sumZ n f +ℤ sumZ n g
-unfolding sumZ
-sumZ-add zero f g = refl
-sumZ-add (suc n) f g = rw (sumZ-add n f g) (+ℤ-swap (sumZ n f) (sumZ n g) (f n) (g n))
-
--- a common factor on the left
+-- a common factor
 pub sumZ-mul : (n : ℕ) (c : ℤ) (f : ℕ → ℤ) → sumZ n (λ k. c *ℤ f k) ≡ c *ℤ sumZ n f
 unfolding sumZ
 sumZ-mul zero c f = sym (*ℤ-zero c)
 sumZ-mul (suc n) c f = rw (sumZ-mul n c f) (sym (*ℤ-+ℤ c (sumZ n f) (f n)))
-
--- a common factor on the right
-pub sumZ-mulr : (n : ℕ) (c : ℤ) (f : ℕ → ℤ) → sumZ n (λ k. f k *ℤ c) ≡ sumZ n f *ℤ c
-unfolding sumZ
-sumZ-mulr zero c f = sym (zero-*ℤ c)
-sumZ-mulr (suc n) c f = rw (sumZ-mulr n c f) (sym (+ℤ-*ℤ (sumZ n f) (f n) c))
-
--- n terms that are one number
-pub sumZ-const : (n : ℕ) (c : ℤ) → sumZ n (λ k. c) ≡ pos n *ℤ c
-unfolding sumZ
-sumZ-const zero c = sym (zero-*ℤ c)
-sumZ-const (suc n) c = rw (sumZ-const n c) (sym (sucℤ-*ℤ (pos n) c))
-
--- terms that are 0
-pub sumZ-nil : (n : ℕ) → sumZ n (λ k. pos 0) ≡ pos 0
-sumZ-nil n = sumZ-const n (pos 0) ∙ *ℤ-zero (pos n)
 
 -- the first term apart
 pub sumZ-first : (n : ℕ) (f : ℕ → ℤ) → sumZ (suc n) f ≡ f 0 +ℤ sumZ n (λ k. f (suc k))
@@ -84,27 +61,11 @@ sumZ-mirror (suc n) f =
     let rest = sumZ-cong n (λ k. f (suc n - 1 - suc k)) (λ k. f (n - 1 - k)) (λ k l. ap f (omega arith)) in
     sumZ-first n (λ k. f (suc n - 1 - k)) ∙ rw (e, rest, sumZ-mirror n f) (+ℤ-comm (f n) (sumZ n f))
 
--- rows first or columns first
-pub sumZ-swap : (n m : ℕ) (f : ℕ → ℕ → ℤ)
-    → sumZ n (λ i. sumZ m (λ j. f i j)) ≡ sumZ m (λ j. sumZ n (λ i. f i j))
-unfolding sumZ
-sumZ-swap zero m f = sym (sumZ-nil m)
-sumZ-swap (suc n) m f =
-    ap (λ (x : ℤ). x +ℤ sumZ m (λ j. f n j)) (sumZ-swap n m f)
-    ∙ sym (sumZ-add m (λ j. sumZ n (λ i. f i j)) (λ j. f n j))
-
 -- a sum of naturals is a natural
 pub sumZ-pos : (n : ℕ) (f : ℕ → ℕ) → sumZ n (λ k. pos (f k)) ≡ pos (sumTo n f)
 unfolding sumZ sumTo
 sumZ-pos zero f = refl
 sumZ-pos (suc n) f = rw (sumZ-pos n f) refl
-
--- a sum of differences of naturals is the difference of their sums
-pub sumZ-is : (n : ℕ) (f : ℕ → ℤ) (a b : ℕ → ℕ) → ((k : ℕ) → k < n → Is (f k) (a k) (b k))
-    → Is (sumZ n f) (sumTo n a) (sumTo n b)
-unfolding sumZ sumTo
-sumZ-is zero f a b h = is-pos 0
-sumZ-is (suc n) f a b h = is-add (sumZ-is n f a b (λ k l. h k (omega arith))) (h n (omega arith))
 
 -- where each term's size is at most g's, the sum's is at most the sum of g
 pub sumZ-abs : (n : ℕ) (f : ℕ → ℤ) (g : ℕ → ℕ) → ((k : ℕ) → k < n → natAbs (f k) ≤ g k)

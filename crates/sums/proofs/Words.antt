@@ -5,7 +5,7 @@ use native.Mathlib.Nat.{div-add-mod, mod-eq-of-lt, mod-lt}
 use native.Mathlib.Omega.{arith}
 use borrow.Author.Tests.{le-ltb, lt-ltb}
 use lib.IntN.{_+ℤ_, natAbs, negsuc, pos, ℤ}
-use Rattle.sums.proofs.Signed.{Is, is-add, is-as, is-pos, down, own, up}
+use Rattle.sums.proofs.Signed.{Is, down, is-add, is-as, is-pos, own, up}
 use Rattle.sums.specs.Word.{signedWord, word}
 
 low : (n : ℕ) → n % 4294967296 < 4294967296

@@ -4,3 +4,4 @@ pub mod Simplex
 pub mod Search
 pub mod Fill
 pub mod Word
+pub mod Steps

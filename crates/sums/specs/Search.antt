@@ -1,6 +1,6 @@
 -- Tests of every number below n, and the lowest number that passes one: Section 1.3.
-use mathlib.Core.Bool.{Bool, true, cond, _&&_}
-use Prim.Native.Nat.{ℕ, zero, suc}
+use mathlib.Core.Bool.{Bool, _&&_, cond, true}
+use Prim.Native.Nat.{suc, zero, ℕ}
 
 -- p holds of every number below n
 unfoldable pub allTo : ℕ → (ℕ → Bool) → Bool

@@ -1,9 +1,9 @@
 -- Section 10.1: sums over all (b0, b1, b2, b3) with b0 + b1 + b2 + b3 = m. They are gone through as
 -- 0 ≤ a3 ≤ a2 ≤ a1 ≤ m, with b0 = m − a1, b1 = a1 − a2, b2 = a2 − a3, b3 = a3.
-use Prim.Native.Nat.{ℕ, suc, _*_, _-_, _^_}
+use Prim.Native.Nat.{_*_, _-_, _^_, suc, ℕ}
 use lib.IntN.{ℤ}
-use Rattle.sums.specs.Sum.{sumTo, sumZ}
 use Rattle.sums.specs.Coefficient.{multinomial}
+use Rattle.sums.specs.Sum.{sumTo, sumZ}
 
 unfoldable pub sumSimplex : ℕ → (ℕ → ℕ → ℕ → ℕ → ℕ) → ℕ
 sumSimplex m f =

@@ -1,6 +1,6 @@
 -- Finite sums over ℕ and ℤ.
-use Prim.Native.Nat.{ℕ, zero, suc, _+_}
-use lib.IntN.{ℤ, pos, _+ℤ_}
+use Prim.Native.Nat.{_+_, suc, zero, ℕ}
+use lib.IntN.{_+ℤ_, pos, ℤ}
 
 -- f 0 + .. + f (n − 1)
 unfoldable pub sumTo : ℕ → (ℕ → ℕ) → ℕ

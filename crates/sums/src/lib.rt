@@ -1,2 +1,2 @@
-// Finite sums, binomials and the multinomial theorem, signed arithmetic, and lists made by filling
-// loops: the general laws that the other crates rest on. Definitions and laws, and no code.
+// Finite sums, binomials and the multinomial theorem, signed arithmetic, lists made by filling loops, and
+// what a list of steps leaves: the general laws that the other crates rest on. Definitions and laws, no code.

@@ -4,8 +4,9 @@ use mathlib.Core.Path.{_≡_, refl, sym}
 use Prim.Native.Nat.{_≤_, ℕ}
 use native.Mathlib.Omega.{arith}
 use borrow.Author.Tests.{ltb-false}
+use Rattle.sums.proofs.Search.{false-true}
 use Rattle.sums.specs.Search.{Found, at, nowhere}
-use Rattle.unit.specs.Checks.{andThen, blockRoomCheck, passedOr, refusal, refuseAt, refuseIf}
+use Rattle.unit.specs.Checks.{andThen, blockRoomCheck, passedOr, passes, refusal, refuseAt, refuseIf}
 use Rattle.unit.specs.declared.Checked.{Checked}
 use Rattle.unit.specs.declared.Checked.the-variants.{Passed, Stopped}
 use Rattle.unit.specs.declared.Refusal.{Refusal}
@@ -35,10 +36,10 @@ pub then-passed : (start rest : Checked) → andThen start rest ≡ Passed → (
 then-passed Passed rest h = (refl, h)
 then-passed (Stopped r) rest h = stopped-passed r h
 
--- three chains in a row, however they are joined
-pub in-order : (a b c : Checked) → andThen (andThen a b) c ≡ andThen a (andThen b c)
-in-order Passed b c = refl
-in-order (Stopped r) b c = refl
+-- checks that say that they pass have passed
+pub passes-passed : (c : Checked) → passes c ≡ true → c ≡ Passed
+passes-passed Passed h = refl
+passes-passed (Stopped r) h = absurd (false-true h)
 
 -- where no test of two applies, neither does
 pub or-false : (a b : Bool) → (a || b) ≡ false → (a ≡ false) × (b ≡ false)

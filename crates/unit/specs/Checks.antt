@@ -1,5 +1,5 @@
 -- Checks in an order, of which the first that applies refuses: Section 5.1.
-use mathlib.Core.Bool.{Bool, _||_, cond}
+use mathlib.Core.Bool.{Bool, _||_, cond, false, true}
 use Prim.Native.Nat.{ℕ}
 use lib.Dec.{ltb}
 use Rattle.sums.specs.Search.{Found, at, nowhere}
@@ -25,6 +25,11 @@ refuseAt number (at i) next = Stopped (refusal number i)
 abbrev pub andThen : Checked → Checked → Checked
 andThen Passed next = next
 andThen (Stopped r) next = Stopped r
+
+-- Section 5.1: whether none refused
+abbrev pub passes : Checked → Bool
+passes Passed = true
+passes (Stopped r) = false
 
 -- Section 5.1: a value by whether all checks passed or one refused
 abbrev pub passedOr : {A : Type 0} → Checked → A → (Refusal → A) → A

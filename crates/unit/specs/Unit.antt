@@ -4,6 +4,7 @@ use Prim.Native.Nat.{_*_, ℕ}
 use lib.Dec.{leb}
 use lib.IntN.{pos, ℤ}
 use Rattle.spline.specs.Multiplicities.{Multiplicities, allowed, multiplicities}
+use Rattle.spline.specs.Place.{Axis, onAxes}
 use Rattle.unit.specs.declared.Unit.{Unit}
 
 -- Section 4.1: the empty unit, all zeros
@@ -30,6 +31,10 @@ netOf u = multiplicities (u .v1) (u .v2) (u .v3) (u .v4)
 -- Section 4.2: the unit has a net
 unfoldable pub hasNet : Unit → Bool
 hasNet u = u .«has_net» && allowed (netOf u)
+
+-- Section 4.3: the sizes of its block
+abbrev pub sizes : Unit → Axis → ℕ
+sizes u = onAxes (u .n1) (u .n2) (u .n3)
 
 -- Section 4.3: an allowed size on one axis
 unfoldable pub sizeAllowed : ℕ → Bool

@@ -1,6 +1,4 @@
 -- The first t sums have been seen to be the whole share.
-use Rattle.blending.proofs.adds_up.Statement.{statement}
-use Rattle.blending.proofs.adds_up.Tie as tie
 use mathlib.Core.Bool.{true}
 use mathlib.Core.Path.{_≡_, sym}
 use Prim.Native.Nat.{_-_, _≤_}
@@ -8,8 +6,10 @@ use native.Mathlib.Omega.{arith}
 use borrow.Author.Tests.{eq-eqb, ne-eqb}
 use lib.Dec.{eqb}
 use Rattle.sums.proofs.Search.{all-next, all-none, all-off}
+use Rattle.sums.specs.Fill.{numberAt}
 use Rattle.sums.specs.Search.{allTo}
-use Rattle.blending.specs.Blend.{numberAt}
+use Rattle.blending.proofs.adds_up.Statement.{statement}
+use Rattle.blending.proofs.adds_up.Tie as tie
 
 abbrev Inv-loop : tie.InvT-loop
 Inv-loop shares count full t₀ t = (t ≤ count) × (allTo t (λ i. eqb (numberAt shares i) full) ≡ true)

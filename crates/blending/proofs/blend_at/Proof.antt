@@ -8,13 +8,13 @@ use borrow.Author.Needs.{needs}
 use borrow.Author.Tests.{not-false, not-true}
 use lib.IntN.{pos, ℤ}
 use lib.ListN.{getD-replicate}
+use Rattle.sums.specs.Fill.{numberAt, signedAt}
 use Rattle.sums.specs.Search.{Found, nowhere}
 use Rattle.spline.specs.Multiplicities.{Multiplicities, degree}
 use Rattle.unit.proofs.Checks.{stopped-passed}
-use Rattle.unit.specs.Unit.{netOf}
-use Rattle.placing.specs.Placing.{placingCell, sizes}
-use Rattle.blending.proofs.Answers.{nothing-written, window-gapped, window-passed}
-use Rattle.blending.proofs.Answers.{window-uneven}
+use Rattle.unit.specs.Unit.{netOf, sizes}
+use Rattle.placing.specs.Placing.{placingCell}
+use Rattle.blending.proofs.Answers.{nothing-written, window-gapped, window-passed, window-uneven}
 use Rattle.blending.proofs.Gaps.{gap-at, gap-nowhere}
 use Rattle.blending.proofs.LocalPlaces.{ordered-at}
 use Rattle.blending.proofs.Searches.{window-gap}
@@ -23,7 +23,6 @@ use Rattle.blending.proofs.Values.{sums-are}
 use Rattle.blending.proofs.Windows.{Inside, framing-of, in-window-of, inside-of, limits-of}
 use Rattle.blending.proofs.blend_at.Statement.{statement}
 use Rattle.blending.specs.Blend.{Sized, blendedCorrectionAt, blendedUncertaintyAt, correctionAt}
-use Rattle.blending.specs.Blend.{numberAt, signedAt}
 use Rattle.blending.specs.Blending.{addsUp}
 use Rattle.blending.specs.Gaps.{firstGap}
 use Rattle.blending.specs.Inner.Frame.{FrameLimits, frameOf, offsetOf}

@@ -1,6 +1,4 @@
 -- After t turns the first t places are written.
-use Rattle.blending.proofs.hand_over.Statement.{statement}
-use Rattle.blending.proofs.hand_over.Tie as tie
 use mathlib.Core.Path.{_∙_, _≡_, ap, refl, sym}
 use Prim.Native.Nat.{_-_, _≤_}
 use native.Mathlib.Omega.{arith}
@@ -9,8 +7,9 @@ use mir.Facts.{toZ-ofZ}
 use mir.Syntax.{w64}
 use mir.Val.{SFits}
 use Rattle.sums.proofs.Fill.{fill-none, fill-store, length-filled}
-use Rattle.sums.specs.Fill.{filled}
-use Rattle.blending.specs.Blend.{numberAt, signedAt}
+use Rattle.sums.specs.Fill.{filled, numberAt, signedAt}
+use Rattle.blending.proofs.hand_over.Statement.{statement}
+use Rattle.blending.proofs.hand_over.Tie as tie
 
 abbrev Inv-loop : tie.InvT-loop
 Inv-loop count corrections uncertainties shifts₀ spreads₀ t₀ shifts spreads t =

@@ -3,10 +3,10 @@ use mathlib.Core.Bool.{true}
 use mathlib.Core.Path.{_≡_}
 use Prim.Native.Nat.{_≤_, ℕ}
 use Rattle.spline.specs.Box.{places, width}
-use Rattle.unit.specs.Unit.{hasBlock, hasNet, netOf}
+use Rattle.unit.specs.Unit.{hasBlock, hasNet, netOf, sizes}
 use Rattle.unit.specs.declared.Unit.{Unit}
 use Rattle.placing.specs.Inner.Ranking.{Axes}
-use Rattle.placing.specs.Placing.{inside, placingCell, sizes}
+use Rattle.placing.specs.Placing.{inside, placingCell}
 use Rattle.placing.specs.declared.Placing.{Placing}
 
 pub record Fit (u : Unit) (netLength correctionsLength uncertaintiesLength : ℕ) (q : Placing) : Type 0 where

@@ -3,8 +3,8 @@ use mathlib.Core.List.{List}
 use Prim.Native.Nat.{_*_, _+_, _≤_, ℕ}
 use lib.IntN.{_*ℤ_, _+ℤ_, natAbs, pos, ℤ}
 use lib.ListN.{length}
+use Rattle.sums.specs.Fill.{numberAt, signedAt}
 use Rattle.sums.specs.Sum.{sumTo, sumZ}
-use Rattle.blending.specs.Blend.{numberAt, signedAt}
 
 pub record Sums : Type 0 where
   pub shares : ℕ

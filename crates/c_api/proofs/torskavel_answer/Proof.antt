@@ -3,8 +3,8 @@ use mathlib.Core.Path.{_∙_, ap}
 use borrow.Author.Needs.{needs}
 use Rattle.placing.proofs.Origin.{handed-on}
 use Rattle.point.specs.Answer.{pointAnswer}
-use Rattle.c_api.proofs.torskavel_answer.Statement.{statement}
 use Rattle.flat.specs.Flat.{flatPoint}
+use Rattle.c_api.proofs.torskavel_answer.Statement.{statement}
 use Rattle.c_api.proofs.torskavel_answer.Tie as tie
 
 unit-of-requires : tie.Need-unit-of-requires

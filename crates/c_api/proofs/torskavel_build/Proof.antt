@@ -1,10 +1,10 @@
 -- `net::build` gets the unit that the record stands for, and its answer is made flat.
 use mathlib.Core.Path.{_∙_, ap}
-use lib.ListN.{length}
 use borrow.Author.Needs.{needs}
+use lib.ListN.{length}
 use Rattle.net.specs.Build.{buildAnswer}
-use Rattle.c_api.proofs.torskavel_build.Statement.{statement}
 use Rattle.flat.specs.Flat.{flatNet}
+use Rattle.c_api.proofs.torskavel_build.Statement.{statement}
 use Rattle.c_api.proofs.torskavel_build.Tie as tie
 
 unit-of-requires : tie.Need-unit-of-requires

@@ -1,10 +1,10 @@
 -- `factory::copy` gets the unit that the record stands for, and its answer is made flat.
 use mathlib.Core.Path.{_∙_, ap}
-use lib.ListN.{length}
 use borrow.Author.Needs.{needs}
+use lib.ListN.{length}
 use Rattle.factory.specs.Factory.{factoryAnswer}
-use Rattle.c_api.proofs.torskavel_factory.Statement.{statement}
 use Rattle.flat.specs.Flat.{flatNet}
+use Rattle.c_api.proofs.torskavel_factory.Statement.{statement}
 use Rattle.c_api.proofs.torskavel_factory.Tie as tie
 
 unit-of-requires : tie.Need-unit-of-requires

@@ -1,11 +1,11 @@
 -- `inspection::inspect` gets the unit that the record stands for, and its answer is made flat.
 use mathlib.Core.Path.{_∙_, ap}
-use lib.ListN.{length}
 use borrow.Author.Needs.{needs}
+use lib.ListN.{length}
 use Rattle.spline.specs.Multiplicities.{multiplicities}
 use Rattle.inspection.specs.Inspect.{inspectAnswer}
-use Rattle.c_api.proofs.torskavel_inspect.Statement.{statement}
 use Rattle.flat.specs.Flat.{flatNet}
+use Rattle.c_api.proofs.torskavel_inspect.Statement.{statement}
 use Rattle.c_api.proofs.torskavel_inspect.Tie as tie
 
 unit-of-requires : tie.Need-unit-of-requires

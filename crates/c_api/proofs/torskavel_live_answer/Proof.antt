@@ -6,8 +6,8 @@ use borrow.Author.Needs.{needs}
 use Rattle.unit.specs.declared.Unit.{Unit}
 use Rattle.placing.proofs.Origin.{handed-on}
 use Rattle.live.specs.Answer.{liveAnswer}
-use Rattle.c_api.proofs.torskavel_live_answer.Statement.{statement}
 use Rattle.flat.specs.Flat.{flatLive}
+use Rattle.c_api.proofs.torskavel_live_answer.Statement.{statement}
 use Rattle.c_api.proofs.torskavel_live_answer.Tie as tie
 
 unit-of-requires : tie.Need-unit-of-requires

@@ -2,8 +2,8 @@
 use mathlib.Core.Path.{_∙_, ap}
 use borrow.Author.Needs.{needs}
 use Rattle.field.specs.Load.{loadAnswer}
-use Rattle.c_api.proofs.torskavel_load.Statement.{statement}
 use Rattle.flat.specs.Flat.{flatBlock}
+use Rattle.c_api.proofs.torskavel_load.Statement.{statement}
 use Rattle.c_api.proofs.torskavel_load.Tie as tie
 
 unit-of-requires : tie.Need-unit-of-requires

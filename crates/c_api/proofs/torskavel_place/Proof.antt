@@ -4,8 +4,8 @@ use borrow.Author.Needs.{needs}
 use Rattle.unit.specs.declared.Unit.{Unit}
 use Rattle.placing.proofs.Origin.{handed-on}
 use Rattle.placing.specs.Place.{placeAnswer}
-use Rattle.c_api.proofs.torskavel_place.Statement.{statement}
 use Rattle.flat.specs.Flat.{flatPlacing}
+use Rattle.c_api.proofs.torskavel_place.Statement.{statement}
 use Rattle.c_api.proofs.torskavel_place.Tie as tie
 
 unit-of-requires : tie.Need-unit-of-requires

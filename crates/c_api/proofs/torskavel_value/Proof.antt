@@ -3,8 +3,8 @@ use mathlib.Core.Path.{_∙_, ap}
 use borrow.Author.Needs.{needs}
 use Rattle.unit.specs.declared.Unit.{Unit}
 use Rattle.point.specs.Answer.{valuingAnswer}
-use Rattle.c_api.proofs.torskavel_value.Statement.{statement}
 use Rattle.flat.specs.Flat.{flatPoint}
+use Rattle.c_api.proofs.torskavel_value.Statement.{statement}
 use Rattle.c_api.proofs.torskavel_value.Tie as tie
 
 unit-of-requires : tie.Need-unit-of-requires

@@ -1,149 +1,168 @@
--- After z turns the layers before z are written, and the cell of z has run along.
-use mathlib.Core.Path.{_∙_, _≡_, ap, refl, sym}
-use Prim.Native.Nat.{_*_, _+_, _-_, _≤_, ℕ}
-use native.Mathlib.Nat.{le-antisymm, mul-le-mul-left}
+-- Row by row, the places before the row at hand are written, and the cells of y and z have run along.
+use mathlib.Core.List.{List}
+use mathlib.Core.Path.{ap}
+use Prim.Native.Nat.{_-_, ℕ}
 use native.Mathlib.Omega.{arith}
 use borrow.Author.Needs.{needs}
 use lib.IntN.{ℤ}
-use lib.ListN.{length}
 use denote.Ref.{now}
-use Rattle.sums.proofs.Fill.{fill-none, length-filled, rebase-in, rebase-out}
-use Rattle.sums.specs.Fill.{filled}
-use Rattle.spline.specs.Box.{places}
 use Rattle.spline.specs.Build.{direction}
-use Rattle.spline.specs.Place.{Axis, Direction, a1, a2, a3}
-use Rattle.shape.specs.Shape.{widths}
+use Rattle.spline.specs.Place.{Direction, a2, a3}
 use Rattle.shape.proofs.Directions.{component-le}
-use Rattle.shape.proofs.Rows.{layer-within}
-use Rattle.differences.proofs.DifferenceRows.{cell-small}
-use Rattle.differences.proofs.difference_box.Statement.{statement}
-use Rattle.differences.specs.Inner.Coordinates.{cellOf}
-use Rattle.differences.specs.Pass.{indexDifference}
-use Rattle.shape.specs.Direction.{component}
+use Rattle.shape.proofs.Rows.{Filled, box-filled, layer-filled, none-filled, row-filled, self-filled}
+use Rattle.shape.specs.Shape.{widths}
+use Rattle.shape.specs.declared.Shape.{Shape}
 use Rattle.shape.specs.declared.Vector.{Vector}
+use Rattle.differences.proofs.DifferenceRows.{IsCell, cell-first, cell-next, cell-small}
+use Rattle.differences.proofs.difference_box.Statement.{statement}
+use Rattle.differences.specs.Pass.{indexDifference}
 use Rattle.differences.proofs.difference_box.Tie as tie
 
+-- what the work slice holds before the row y of the layer z
+abbrev Written : List ℕ → Shape → Shape → ℕ → List ℤ → List ℤ → ℕ → ℕ → Type 0
+Written net old new d =
+    Filled (indexDifference (direction d) (old .m) (widths old) net (widths new))
+    (new .w1) (new .w2) (new .w3)
+
+abbrev Inv-loop2 : tie.InvT-loop2
+Inv-loop2 net work₀ old new d g w2 w3 v cz z cy₀ y₀ work cy y =
+    IsCell (direction d) g a2 y cy
+    × ((base : List ℤ) → Written net old new d base work₀ 0 z → Written net old new d base work y z)
+
+abbrev μ-loop2 : tie.MeasureT-loop2
+μ-loop2 net work₀ old new d g w2 w3 v cz z cy₀ y₀ work cy y = w2 - y
+
 abbrev Inv-loop : tie.InvT-loop
-Inv-loop net work₀ old new d g w3 cz₀ z₀ work cz z =
-    (z ≤ w3) × (cz ≡ cellOf g (z + g * component (direction d) a3)) × (length work ≡ length work₀)
-    × (work ≡ filled (indexDifference (direction d) g (widths old) net (widths new))
-    (new .w1 * (new .w2 * z)) work₀)
+Inv-loop net work₀ old new d g w2 w3 v cz₀ z₀ work cz z =
+    IsCell (direction d) g a3 z cz × Written net old new d work₀ work 0 z
 
 abbrev μ-loop : tie.MeasureT-loop
-μ-loop net work₀ old new d g w3 cz₀ z₀ work cz z = w3 - z
+μ-loop net work₀ old new d g w2 w3 v cz₀ z₀ work cz z = w3 - z
 
-module _ (s : tie.Start Inv-loop μ-loop) where
+module _ (q : tie.Start Inv-loop2 μ-loop2 Inv-loop μ-loop) where
   abbrev d : Direction
-  d = direction (s .args .d)
+  d = direction (q .args .d)
 
   abbrev g : ℕ
-  g = s .args .old .m
+  g = q .args .old .m
 
-  abbrev W : Axis → ℕ
-  W = widths (s .args .new)
-
-  abbrev f : ℕ → ℤ
-  f = indexDifference d g (widths (s .args .old)) (now (s .args .net)) W
-
-  -- the places before the layer z
-  abbrev upto : ℕ → ℕ
-  upto z = W a1 * (W a2 * z)
-
--- in a turn
-module _ (c : tie.In-loop Inv-loop μ-loop) where
-  abbrev start : tie.Start Inv-loop μ-loop
-  start = c .before .before .before .before .before
-
-vector-of-requires : tie.Need-vector-of-requires Inv-loop μ-loop
+vector-of-requires : tie.Need-vector-of-requires Inv-loop2 μ-loop2 Inv-loop μ-loop
 vector-of-requires c κs = search needs
 
-first-cell-requires : tie.Need-first-cell-requires Inv-loop μ-loop
+first-cell-requires : tie.Need-first-cell-requires Inv-loop2 μ-loop2 Inv-loop μ-loop
 first-cell-requires c κs =
     let q = c .before .before in
     let step = ap (λ (v : Vector). v .z) (c .vector-of .ensures) in
     (q .pre .0 .degree, omega (arith, step, component-le (d q) a3))
 
-loop-holds : tie.Need-loop-holds Inv-loop μ-loop
+loop-holds : tie.Need-loop-holds Inv-loop2 μ-loop2 Inv-loop μ-loop
 loop-holds c =
     let q = c .before .before .before in
-    let e : 0 ≡ upto q 0 = omega arith in
-    let n : g q * component (d q) a3 ≡ 0 + g q * component (d q) a3 = omega arith in (
-      omega arith,
-      c .first-cell .ensures
-          ∙ ap (λ (v : Vector). cellOf (g q) (g q * v .z)) (c .before .vector-of .ensures)
-          ∙ ap (cellOf (g q)) n,
-      refl,
-      sym (fill-none (f q) (now (q .args .work))) ∙ ap (λ (k : ℕ). filled (f q) k (now (q .args .work))) e,
+    let first = c .first-cell in
+    let step = ap (λ (v : Vector). v .z) (c .before .vector-of .ensures) in
+    (cell-first (d q) a3 (g q) (first .result) _ step (first .ensures), none-filled)
+
+first-cell-requires-2 : tie.Need-first-cell-requires-2 Inv-loop2 μ-loop2 Inv-loop μ-loop
+first-cell-requires-2 c κs =
+    let v = c .before .before .before in
+    let q = v .before .before in
+    let step = ap (λ (v : Vector). v .y) (v .vector-of .ensures) in
+    (q .pre .0 .degree, omega (arith, step, component-le (d q) a2))
+
+loop2-holds : tie.Need-loop2-holds Inv-loop2 μ-loop2 Inv-loop μ-loop
+loop2-holds c =
+    let v = c .before .before .before .before in
+    let q = v .before .before in
+    let first = c .first-cell2 in
+    let step = ap (λ (v : Vector). v .y) (v .vector-of .ensures) in
+    (cell-first (d q) a2 (g q) (first .result) _ step (first .ensures), λ base h. h)
+
+difference-row-requires : tie.Need-difference-row-requires Inv-loop2 μ-loop2 Inv-loop μ-loop
+difference-row-requires c κs =
+    let t = c .before .before in
+    let l = t .before .before .before in
+    let q = l .before .before .before .before in
+    let h = t .loop2 .inv .1 (now (q .args .work)) (l .loop .inv .1) in (
+      (q .pre .0, q .pre .1, omega (arith, h .same, q .pre .2)),
+      ((omega arith, omega arith), ((t .loop2 .inv .0, l .loop .inv .0), self-filled h)),
     )
 
-difference-layer-requires : tie.Need-difference-layer-requires Inv-loop μ-loop
-difference-layer-requires c κs =
-    let b = c .before in
-    let q = start b in
-    let l = b .before .loop in (
-      (q .pre .0, q .pre .1, omega (arith, l .inv .2, q .pre .2)),
-      ((omega arith, l .inv .1), rebase-in (f q) (now (q .args .work)) (l .work) (upto q (l .z)) (l .inv .3)),
-    )
-
-next-cell-requires : tie.Need-next-cell-requires Inv-loop μ-loop
+next-cell-requires : tie.Need-next-cell-requires Inv-loop2 μ-loop2 Inv-loop μ-loop
 next-cell-requires c κs =
-    let q = c .before .before .before .before .before .before .before .before in
-    let l = c .before .before .before .before .loop in
+    let t = c .before .before .before .before in
+    let q = t .before .before .before .before .before .before .before in
+    let l = t .loop2 in
     let degree = q .pre .0 .degree in
-    let low : l .z ≤ 91 = omega (arith, l .inv .0, q .pre .1) in
-    (degree, cell-small (d q) a3 (g q) (l .z) (l .cz) degree low (l .inv .1) .base)
+    (degree, cell-small (d q) a2 (g q) (l .y) (l .cy) degree (omega (arith, q .pre .1)) (l .inv .0) .base)
 
-add-z : tie.Need-add-z Inv-loop μ-loop
-add-z c =
-    let l = c .before .before .before .before .before .loop in
-    let q = c .before .before .before .before .before .before .before .before .before in
-    omega (arith, l .inv .0, q .pre .1)
+add-y : tie.Need-add-y Inv-loop2 μ-loop2 Inv-loop μ-loop
+add-y c =
+    let l = c .before .before .before .before .before .before .before .before in
+    omega (arith, l .before .before .before .before .pre .1)
 
-loop-less : tie.Need-loop-less Inv-loop μ-loop
+loop2-less : tie.Need-loop2-less Inv-loop2 μ-loop2 Inv-loop μ-loop
+loop2-less c = omega arith
+
+loop2-again : tie.Need-loop2-again Inv-loop2 μ-loop2 Inv-loop μ-loop
+loop2-again c =
+    let t = c .before .before .before .before .before in
+    let l = t .before .before .before in
+    let q = l .before .before .before .before in (
+      cell-next (d q) a2 (g q) (t .loop2 .cy) (c .next-cell .result) (t .loop2 .y) (t .loop2 .inv .0)
+          (c .next-cell .ensures),
+      λ base h. row-filled (t .loop2 .inv .1 base h) (omega arith) (omega arith)
+          (omega (arith, h .same, l .loop .inv .1 .same, q .pre .2))
+          _ (c .before .before .difference-row .ensures),
+    )
+
+next-cell-requires-2 : tie.Need-next-cell-requires-2 Inv-loop2 μ-loop2 Inv-loop μ-loop
+next-cell-requires-2 c κs =
+    let l = c .before .before .before .before .loop in
+    let q = c .before .before .before .before .before .before .before .before in
+    let degree = q .pre .0 .degree in
+    (degree, cell-small (d q) a3 (g q) (l .z) (l .cz) degree (omega (arith, q .pre .1)) (l .inv .0) .base)
+
+add-z : tie.Need-add-z Inv-loop2 μ-loop2 Inv-loop μ-loop
+add-z c = omega (arith, c .before .before .before .before .before .before .before .before .before .pre .1)
+
+loop-less : tie.Need-loop-less Inv-loop2 μ-loop2 Inv-loop μ-loop
 loop-less c = omega arith
 
-loop-again : tie.Need-loop-again Inv-loop μ-loop
+loop-again : tie.Need-loop-again Inv-loop2 μ-loop2 Inv-loop μ-loop
 loop-again c =
-    let b = c .before .before .before .before in
-    let q = start b in
-    let l = b .before .loop in
-    let r = c .before .before .difference-layer in
-    let work = now (q .args .work) in
-    let n : l .z + g q * component (d q) a3 + 1 ≡ l .z + 1 + g q * component (d q) a3 = omega arith in
-    let layer : W q a2 * l .z ≤ W q a2 * (l .z + 1) = mul-le-mul-left (W q a2) (omega arith) in
-    let up : upto q (l .z) ≤ upto q (l .z + 1) = mul-le-mul-left (W q a1) layer in
-    let in-box = layer-within (W q a1) (W q a2) (W q a3) (l .z) (b .loop-test .taken) in
-    let i = upto q (l .z) in
-    let j = upto q (l .z + 1) in
-    let e = rebase-out (f q) work (l .work) i (l .inv .3) (r .last .1 .0) j up (r .ensures) in (
-      omega arith,
-      c .next-cell .ensures (l .z + g q * component (d q) a3) (l .inv .1) ∙ ap (cellOf (g q)) n,
-      ap length e ∙ length-filled (f q) j work (omega (arith, in-box, q .pre .2)),
-      e,
+    let l = c .before .before .before .before .before in
+    let q = l .before .before .before .before in
+    let t = c .before .before .loop2 in (
+      cell-next (d q) a3 (g q) (l .loop .cz) (c .next-cell2 .result) (l .loop .z) (l .loop .inv .0)
+          (c .next-cell2 .ensures),
+      layer-filled (t .inv .1 _ (l .loop .inv .1)) (c .before .loop2-test .left) (omega arith),
     )
 
-same-length : tie.Need-same-length Inv-loop μ-loop
-same-length c = c .before .loop .inv .2
+same-length : tie.Need-same-length Inv-loop2 μ-loop2 Inv-loop μ-loop
+same-length c = c .before .loop .inv .1 .same
 
-returns : tie.Need-returns Inv-loop μ-loop
-returns c =
-    let q = c .before .before .before .before .before in
-    let l = c .before .loop in
-    let h : l .z ≡ W q a3 = le-antisymm (l .inv .0) (c .loop-test .left) in
-    let k : upto q (l .z) ≡ places (W q) = rw h (omega arith) in
-    l .inv .3 ∙ ap (λ (i : ℕ). filled (f q) i (now (q .args .work))) k
+returns : tie.Need-returns Inv-loop2 μ-loop2 Inv-loop μ-loop
+returns c = box-filled (c .before .loop .inv .1) (c .loop-test .left)
 
 pub difference-box-spec : {M : Type 1} → statement M
 difference-box-spec =
     tie.close
     (tie.spec
+    Inv-loop2
+    μ-loop2
     Inv-loop
     μ-loop
     vector-of-requires
     first-cell-requires
     loop-holds
-    difference-layer-requires
+    first-cell-requires-2
+    loop2-holds
+    difference-row-requires
     next-cell-requires
+    add-y
+    loop2-less
+    loop2-again
+    next-cell-requires-2
     add-z
     loop-less
     loop-again

@@ -23,12 +23,13 @@ same-length c = search needs
 returns : tie.Need-returns
 unfolding differencesOf
 returns c =
-    let t = sym (c .before .before .before .before .fits2 .ensures) ∙ c .before .before .before .if1 .taken in
-    simp t (c .before .difference-box .ensures)
+    let b = c .before .before .before in
+    let t = sym (b .before .fits2 .ensures) ∙ b .if1 .taken in
+    (simp (b .if1 .taken, t), simp t (c .before .difference-box .ensures))
 
 returns-2 : tie.Need-returns-2
 unfolding differencesOf
-returns-2 c = simp (sym (c .before .fits2 .ensures) ∙ c .if1 .left)
+returns-2 c = let t = sym (c .before .fits2 .ensures) ∙ c .if1 .left in (simp (c .if1 .left, t), simp t)
 
 pub shift-and-subtract-spec : {M : Type 1} → statement M
 shift-and-subtract-spec =

@@ -1,5 +1,4 @@
--- After i turns the first i numbers of the slice are those of the defined net, since the table's are: the
--- whole table is compared with the net once, by computation.
+-- After i turns the first i numbers of the slice are those of the defined net, since the table's are.
 use mathlib.Core.List.{List}
 use mathlib.Core.Path.{_∙_, _≡_, ap, refl, sym}
 use Prim.Native.Nat.{_+_, _-_, _<_, _≤_, ℕ}
@@ -9,10 +8,8 @@ use denote.Ref.{now}
 use Rattle.sums.proofs.Fill.{fill-none, fill-store}
 use Rattle.sums.specs.Fill.{filled}
 use Rattle.spline.specs.Box.{definedNumber}
-use Rattle.spline.specs.Build.{built, simple, stepped, sumBack}
-use Rattle.spline.specs.Defined.{defined, definedOrder}
-use Rattle.spline.specs.Rule.{lowerAbove}
-use Rattle.factory.proofs.TableRule.{Right, by-test, values}
+use Rattle.factory_net.proofs.Numbers.{numbers}
+use Rattle.factory_net.proofs.TableRule.{Right, right-by}
 use Rattle.factory.proofs.lay_table.Statement.{statement}
 use Rattle.factory.specs.Factory.{factoryShape}
 use Rattle.factory.proofs.lay_table.Tie as tie
@@ -36,10 +33,10 @@ abbrev μ-loop : tie.MeasureT-loop
 μ-loop net₀ table i₀ net i = 2197 - i
 
 loop-holds : tie.Need-loop-holds Inv-loop μ-loop
-unfolding built defined definedOrder lowerAbove simple stepped sumBack values
+unfolding numbers
 loop-holds c =
-    -- the computed test of the table, which stands in the code alone
-    let right = by-test _ refl in
+    -- the code's table has the numbers of which the rule was computed
+    let right = right-by _ refl in
     (omega arith, sym (fill-none number _), refl, right)
 
 mul-net : tie.Need-mul-net Inv-loop μ-loop

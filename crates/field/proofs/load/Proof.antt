@@ -1,7 +1,7 @@
--- All checks have passed before the first write, so both arrays lie in the file and have room in the slices.
+-- All checks have passed before the first write, so the file has its entries and the slices have room.
 use mathlib.Core.List.{List}
 use mathlib.Core.Path.{_∙_, _≡_, ap, sym}
-use Prim.Native.Nat.{_≤_, ℕ}
+use Prim.Native.Nat.{ℕ}
 use native.Mathlib.Omega.{arith}
 use borrow.Author.Needs.{needs}
 use lib.IntN.{ℤ}
@@ -9,12 +9,9 @@ use lib.ListN.{length}
 use denote.Ref.{now}
 use Rattle.unit.specs.declared.Checked.the-variants.{Passed}
 use Rattle.unit.specs.declared.UnitAnswer.the-variants.{Changed}
-use Rattle.field.proofs.Accepted.{LoadAccepted, has-entries, load-accepted}
-use Rattle.field.proofs.Entries.{counted}
-use Rattle.field.proofs.Twos.{read-back}
+use Rattle.file.proofs.Twos.{read-back}
+use Rattle.field.proofs.Accepted.{corrections-loaded, most-entries, uncertainties-loaded}
 use Rattle.field.proofs.load.Statement.{statement}
-use Rattle.field.specs.File.{entryCount}
-use Rattle.field.specs.Inner.Entries.{HasEntries}
 use Rattle.field.specs.Load.{loadAnswer, loadChecks, loadCorrections, loadUncertainties}
 use Rattle.field.proofs.load.Tie as tie
 
@@ -35,26 +32,6 @@ module _ (c : tie.After-enum-told) where
   passed : loadChecks file (length corrections) (length uncertainties) ≡ Passed
   passed = sym (c .before .before .check-load .ensures) ∙ c .enum-told .given .1
 
-  taken : LoadAccepted file (length corrections) (length uncertainties)
-  taken = load-accepted file _ _ passed
-
--- the entries have been counted
-module _ (c : tie.After-entries) where
-  abbrev checked : tie.After-enum-told
-  checked = c .before .before .before
-
-  abbrev n : ℕ
-  n = c .entries .result
-
-  count : n ≡ entryCount (file checked)
-  count = counted _ (file checked) (c .entries .ensures) (c .before .before .read .ensures)
-
-  readable : HasEntries (file checked) n
-  readable = has-entries (file checked) (taken checked .layout) count
-
-  rooms : (n ≤ length (corrections checked)) × (n ≤ length (uncertainties checked))
-  rooms = omega (arith, count, taken checked .room1, taken checked .room2)
-
 check-load-requires : tie.Need-check-load-requires
 check-load-requires c κs = search needs
 
@@ -71,23 +48,24 @@ enum-told : tie.Need-enum-told
 enum-told c = search needs
 
 read-requires : tie.Need-read-requires
-read-requires c κs = taken c .layout .header
+read-requires c κs = search needs
 
 read-requires-2 : tie.Need-read-requires-2
-read-requires-2 c κs = taken (c .before) .layout .header
+read-requires-2 c κs = search needs
 
 entries-requires : tie.Need-entries-requires
 entries-requires c κs = search needs
 
+cast-n : tie.Need-cast-n
+cast-n c =
+    let b = c .before .before .before in
+    omega (arith, c .entries .ensures, most-entries (file b) (corrections b) (uncertainties b) (passed b))
+
 read-corrections-requires : tie.Need-read-corrections-requires
-read-corrections-requires c κs =
-    let b = c .before in
-    (omega (arith, readable b), omega (arith, rooms b))
+read-corrections-requires c κs = search needs
 
 read-uncertainties-requires : tie.Need-read-uncertainties-requires
-read-uncertainties-requires c κs =
-    let b = c .before .before .before .before in
-    (readable b, omega (arith, rooms b))
+read-uncertainties-requires c κs = search needs
 
 with-block-requires : tie.Need-with-block-requires
 with-block-requires c κs = search needs
@@ -99,7 +77,7 @@ same-length-2 : tie.Need-same-length-2
 same-length-2 c = search needs
 
 returns-2 : tie.Need-returns-2
-unfolding loadAnswer loadCorrections loadUncertainties
+unfolding loadAnswer
 returns-2 c =
     let told = c .before .before .before in
     let read-u = told .before .before .before .read-uncertainties in
@@ -111,9 +89,14 @@ returns-2 c =
     let o1 = read-back (fits .0 .1) (origin .0) in
     let o2 = read-back (fits .1 .0 .1) (origin .1) in
     let o3 = read-back (fits .1 .1 .0 .1) (origin .2) in
-    let e = passed (checked b) in (
+    let k = b .before .before .before in
+    let e = passed k in
+    let n = b .entries .ensures in (
       simp e (ap Changed (c .with-block .ensures ∙ simp (sizes .0, sizes .1, sizes .2, o1, o2, o3))),
-      (simp (e, ← (count b)) (read-c .ensures), simp (e, ← (count b)) (read-u .ensures)),
+      (
+        read-c .ensures .1 ∙ corrections-loaded (file k) (corrections k) (uncertainties k) e _ n,
+        read-u .ensures .1 ∙ uncertainties-loaded (file k) (corrections k) (uncertainties k) e _ n,
+      ),
     )
 
 pub load-spec : {M : Type 1} → statement M
@@ -127,6 +110,7 @@ load-spec =
     read-requires
     read-requires-2
     entries-requires
+    cast-n
     read-corrections-requires
     read-uncertainties-requires
     with-block-requires

@@ -1,11 +1,12 @@
 -- Up to the index that the three loops have reached the lists agree; at the first that differs all are left.
-use mathlib.Core.Bool.{Bool, false, true}
+use mathlib.Core.Bool.{Bool, not}
 use mathlib.Core.Path.{_∙_, _≡_, ap, refl, subst, sym}
 use Prim.Native.Nat.{_*_, _+_, _-_, _<_, _≤_, ℕ}
 use native.Mathlib.Nat.{le-antisymm, mul-assoc}
 use native.Mathlib.Omega.{arith}
 use borrow.Author.Needs.{needs}
 use borrow.Author.Tests.{eq-eqb, ne-eqb}
+use lib.ListN.{getD}
 use denote.Ref.{now}
 use Rattle.sums.proofs.Places.{box-le, index-in, next-layer, next-row}
 use Rattle.sums.proofs.Search.{first-hit, first-none, first-zero}
@@ -47,6 +48,13 @@ module _ (c : tie.In-loop2 Inv-loop2 μ-loop2 Inv-loop μ-loop Inv-places μ-pla
 
   abbrev s : Shape
   s = start .args .s
+
+  -- the two numbers that are compared
+  abbrev ours : ℕ
+  ours = getD (now (start .args .net)) (c .before .loop2 .i) 0
+
+  abbrev theirs : ℕ
+  theirs = getD (now (start .args .defined)) (c .before .loop2 .i) 0
 
   abbrev test : ℕ → Bool
   test = differs (now (start .args .net)) (now (start .args .defined))
@@ -101,7 +109,7 @@ loop2-again : tie.Need-loop2-again Inv-loop2 μ-loop2 Inv-loop μ-loop Inv-place
 loop2-again c =
     let t = c .before .before .before in
     let l = t .before .loop2 in
-    let e : test t (l .i) ≡ false = rw (eq-eqb _ _ (c .if1 .left)) in
+    let e = ap not (eq-eqb (ours t) (theirs t) (c .if1 .left)) in
     (l .inv .0, omega arith, omega (arith, l .inv .2), first-none (test t) (l .i) (l .inv .3) e)
 
 add-y : tie.Need-add-y Inv-loop2 μ-loop2 Inv-loop μ-loop Inv-places μ-places
@@ -154,7 +162,7 @@ returns-2 : tie.Need-returns-2 Inv-loop2 μ-loop2 Inv-loop μ-loop Inv-places μ
 returns-2 c =
     let t = c .before .before .before .before in
     let l = t .before .loop2 in
-    let e : test t (l .i) ≡ true = rw (ne-eqb _ _ (c .before .if1 .taken)) in
+    let e = ap not (ne-eqb (ours t) (theirs t) (c .before .if1 .taken)) in
     let hit = first-hit (test t) (places (widths (s t))) (l .i) (l .inv .3) e (within t .0) in
     c .stop .ensures ∙ sym (ap (λ f. refuseAt 14 f Passed) hit)
 

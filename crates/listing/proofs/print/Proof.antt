@@ -9,13 +9,13 @@ use lib.ListN.{getD, length, take}
 use lib.Seq.{length-take-le}
 use denote.Ref.{now}
 use Rattle.sums.proofs.Fill.{take-filled}
+use Rattle.text.proofs.Puts.{put-first, put-length}
+use Rattle.text.specs.Put.{Put}
 use Rattle.listing.proofs.Printed.{nine-decide}
-use Rattle.listing.proofs.Texts.{put-first, put-length}
 use Rattle.listing.proofs.Orders.{numbers-typed}
 use Rattle.listing.proofs.print.Statement.{statement}
 use Rattle.listing.specs.Order.{digitNumber, orderLength}
 use Rattle.listing.specs.Print.{printedOrder}
-use Rattle.listing.specs.Inner.Put.{Put}
 use Rattle.listing.proofs.print.Tie as tie
 
 -- once the order is read
@@ -74,8 +74,9 @@ returns c =
     let out = now (r .before .before .before .before .before .args .out) in
     let e = ap printedOrder (numbers r) ∙ nine-decide (text r) (n r) (count r) in
     let t = subst (λ (t : List ℕ). Put t out (p .last .1 .0) 0 (p .result)) e (p .ensures .0) in
-    let f = put-first t (p .ensures .1) in
-    let h : p .result ≤ length (p .last .1 .0) = omega (arith, p .ensures .1, put-length t) in
+    let fits = ap length e in
+    let f = put-first t (omega (arith, p .ensures .1)) in
+    let h : p .result ≤ length (p .last .1 .0) = omega (arith, f .0, p .ensures .1, put-length t) in
     (f .0, (f .1, (h, sym (length-take-le (p .result) (p .last .1 .0) h))))
 
 pub print-spec : {M : Type 1} → statement M

@@ -2,9 +2,11 @@
 use mathlib.Core.List.{List}
 use mathlib.Core.Path.{_∙_, _≡_, ap, refl, subst, sym}
 use Prim.Native.Nat.{ℕ}
+use native.Mathlib.Omega.{arith}
 use borrow.Author.Needs.{needs}
 use lib.ListN.{getD, length}
 use denote.Ref.{now}
+use Rattle.text.specs.Put.{Put}
 use Rattle.spline.specs.Multiplicities.{orderMultiplicities}
 use Rattle.unit.proofs.Checks.{unit-changed, unit-refused}
 use Rattle.unit.specs.Checks.{passedOr}
@@ -15,12 +17,11 @@ use Rattle.unit.specs.declared.Unit.{Unit}
 use Rattle.unit.specs.declared.UnitAnswer.the-variants.{Changed, Refused}
 use Rattle.net.specs.Build.{buildAnswer}
 use Rattle.net.specs.Order.{buildChecks}
-use Rattle.listing.proofs.Built.{listed, listed-text}
+use Rattle.listing.proofs.Built.{listed, listed-length, listed-text}
 use Rattle.listing.proofs.Printed.{printed-refused}
 use Rattle.listing.proofs.print_order.Statement.{statement}
 use Rattle.listing.specs.Inner.Fit.{Listed}
 use Rattle.listing.specs.Print.{netText}
-use Rattle.listing.specs.Inner.Put.{Put}
 use Rattle.listing.proofs.print_order.Tie as tie
 
 -- once the build has answered
@@ -72,8 +73,8 @@ put-net-requires : tie.Need-put-net-requires
 put-net-requires c κs =
     let b = c .before .before .before .before .before .before .before in
     let m = made b _ (c .before .before .before .answer .given .1) in
-    subst (λ (u : Unit). Listed u (net b) (length (now (start b .args .out)))) (sym (m .1))
-    (listed (typed b) (m .0) _ (net b) refl (b .build .ensures .1 .0) _ (start b .pre))
+    subst (λ (u : Unit). Listed u (net b)) (sym (m .1))
+    (listed (typed b) (m .0) _ (net b) refl (b .build .ensures .1 .0))
 
 enum-known-answer-2 : tie.Need-enum-known-answer-2
 enum-known-answer-2 c = search needs
@@ -92,8 +93,8 @@ returns c =
       subst (λ (t : List ℕ). Put t (now (start b .args .out)) (p .last .0) 0 (p .result))
           (ap (λ (u : Unit). netText (netOf u) (λ i. getD (net b) i 0)) (m .1)
           ∙ listed-text (typed b) (m .0) _ (net b) refl (b .build .ensures .1 .0))
-          (p .ensures .0),
-      p .ensures .1,
+          (p .ensures),
+      listed-length (typed b) (m .0) _ (net b) refl (b .build .ensures .1 .0),
     )
 
 same-length-2 : tie.Need-same-length-2
@@ -108,7 +109,7 @@ returns-2 c =
       subst (λ (t : List ℕ). Put t (now (start b .args .out)) (p .last .0) 0 (p .result))
           (sym (printed-refused (typed b) _ e))
           (p .ensures .0),
-      p .ensures .1,
+      omega (arith, ap length (printed-refused (typed b) _ e), p .ensures .1),
     )
 
 pub print-order-spec : {M : Type 1} → statement M

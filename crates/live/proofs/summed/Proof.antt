@@ -5,9 +5,9 @@ use borrow.Author.Needs.{needs}
 use lib.Ieee.{Float}
 use lib.IntN.{pos, ℤ}
 use denote.Ref.{now}
+use Rattle.sums.specs.Fill.{numberAt, signedAt}
 use Rattle.spline.specs.Multiplicities.{degree}
 use Rattle.unit.specs.Unit.{netOf}
-use Rattle.blending.specs.Blend.{numberAt, signedAt}
 use Rattle.point.specs.Inner.Parts.{partsTo}
 use Rattle.live.proofs.Answers.{switched-off, switched-on}
 use Rattle.live.proofs.summed.Statement.{statement}

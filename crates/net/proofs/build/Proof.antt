@@ -2,6 +2,7 @@
 use mathlib.Core.List.{List}
 use mathlib.Core.Path.{_∙_, _≡_, ap, sym}
 use Prim.Native.Nat.{ℕ}
+use native.Mathlib.Nat.{le-trans}
 use borrow.Author.Needs.{needs}
 use lib.ListN.{length}
 use denote.Ref.{now}
@@ -11,6 +12,8 @@ use Rattle.unit.specs.Unit.{withNet}
 use Rattle.unit.specs.declared.Checked.the-variants.{Passed}
 use Rattle.unit.specs.declared.UnitAnswer.the-variants.{Changed}
 use Rattle.net.proofs.Accepted.{BuildAccepted, build-accepted}
+use Rattle.net.proofs.Orders.{prefix-places}
+use Rattle.net.proofs.Repeats.{all-taken, taken-length}
 use Rattle.net.proofs.build.Statement.{statement}
 use Rattle.net.specs.Build.{buildAnswer, buildNet, buildWork}
 use Rattle.net.specs.Order.{buildChecks}
@@ -54,7 +57,7 @@ enum-told c = search needs
 run-requires : tie.Need-run-requires
 run-requires c κs =
     let r = taken (c .before .before) in
-    (r .good, (r .net-room, r .work-room))
+    (r .good, le-trans (prefix-places (order (c .before .before)) 0) (r .net-room))
 
 counts-of-requires : tie.Need-counts-of-requires
 counts-of-requires c κs = taken (c .before .before .before .before .before .before) .good
@@ -74,9 +77,16 @@ returns-2 c =
     let r = c .before .before .before .before .before .before .before .before in
     let f = c .before .before .before .before .before .run in
     let counts = c .before .counts-of .ensures .0 in
-    let unit = c .with-net .ensures ∙ ap (withNet (start r .args .unit)) counts in (
+    let unit = c .with-net .ensures ∙ ap (withNet (start r .args .unit)) counts in
+    let net = now (start r .args .net) in
+    let work = now (start r .args .work) in
+    let t = taken r in (
       simp (passed r) (ap Changed unit),
-      (simp (passed r) (f .ensures .0), simp (passed r) (f .ensures .1)),
+      (
+        simp (passed r)
+            (f .ensures .0 ∙ all-taken (order r) (t .good) net (t .net-room) work (t .work-room)),
+        simp (passed r) (ap length (f .ensures .1) ∙ taken-length (order r) net work),
+      ),
     )
 
 pub build-spec : {M : Type 1} → statement M

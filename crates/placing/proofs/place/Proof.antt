@@ -6,15 +6,15 @@ use native.Mathlib.Omega.{arith}
 use borrow.Author.Needs.{needs}
 use lib.IntN.{natAbs, ℤ}
 use Rattle.unit.specs.Checks.{passedOr}
-use Rattle.unit.specs.Unit.{netOf}
+use Rattle.unit.specs.Unit.{netOf, sizes}
 use Rattle.unit.specs.declared.Checked.the-variants.{Passed}
 use Rattle.unit.specs.declared.Unit.{Unit}
+use Rattle.limits.proofs.Accepted.{DivisorAccepted, Equipped, divisor-accepted, equipped}
+use Rattle.limits.specs.Limits.{divisorChecks, unitChecks}
 use Rattle.placing.proofs.Origin.{NoneNegative, ReadAs, alike, casts-down, read-as, signs-passed}
-use Rattle.placing.proofs.Placed.{DivisorAccepted, Equipped, divisor-accepted, equipped}
 use Rattle.placing.proofs.place.Statement.{statement}
-use Rattle.placing.specs.Place.{cellCheck, divisorChecks, insideCheck, placeAnswer, pointChecks}
-use Rattle.placing.specs.Place.{signCheck, unitChecks}
-use Rattle.placing.specs.Placing.{blockCells, blockPlacing, fromOrigin, placing, sizes}
+use Rattle.placing.specs.Place.{cellCheck, insideCheck, placeAnswer, positionChecks, signCheck}
+use Rattle.placing.specs.Placing.{blockCells, blockPlacing, fromOrigin, placing}
 use Rattle.placing.specs.declared.PlacingAnswer.{PlacingAnswer}
 use Rattle.placing.specs.declared.PlacingAnswer.the-variants.{Placed, Refused}
 use Rattle.placing.proofs.place.Tie as tie
@@ -101,13 +101,13 @@ enum-told : tie.Need-enum-told
 enum-told c = search needs
 
 check-divisor-requires : tie.Need-check-divisor-requires
-check-divisor-requires c κs = held c .net-held
+check-divisor-requires c κs = search needs
 
 enum-known-refusal-2 : tie.Need-enum-known-refusal-2
 enum-known-refusal-2 c = search needs
 
 returns-2 : tie.Need-returns-2
-unfolding placeAnswer pointChecks
+unfolding placeAnswer positionChecks
 returns-2 c =
     let p = c .before .before .before in
     simp (unit-passed (p .before), sym (p .check-divisor .ensures) ∙ c .before .refusal2 .given .1)
@@ -131,7 +131,7 @@ enum-known-refusal-3 : tie.Need-enum-known-refusal-3
 enum-known-refusal-3 c = search needs
 
 returns-3 : tie.Need-returns-3
-unfolding placeAnswer pointChecks insideCheck
+unfolding placeAnswer positionChecks insideCheck
 returns-3 c =
     let o = c .before .before .before in
     let p = passed (o .before) in
@@ -159,7 +159,7 @@ place-in-block-requires c κs =
     (held (p .before .before .before) .block-held, divisor p .some, divisor p .few)
 
 returns-4 : tie.Need-returns-4
-unfolding placeAnswer pointChecks insideCheck placing
+unfolding placeAnswer positionChecks insideCheck placing
 returns-4 c =
     let o = c .before .before .before in
     let f = o .before in

@@ -1,13 +1,14 @@
 -- The point is located once on each axis, and the test of the cell and the placing go by that.
 use mathlib.Core.Path.{_∙_, _≡_, ap, sym}
 use borrow.Author.Needs.{needs}
+use Rattle.spline.specs.Place.{onAxes}
 use Rattle.unit.proofs.Limits.{BlockLimits, block-limits}
-use Rattle.unit.specs.Unit.{netOf}
+use Rattle.unit.specs.Unit.{netOf, sizes}
 use Rattle.placing.proofs.Cells.{remainder-most}
 use Rattle.placing.proofs.Origin.{alike}
 use Rattle.placing.proofs.place_in_block.Statement.{statement}
 use Rattle.placing.specs.Place.{cellCheck}
-use Rattle.placing.specs.Placing.{blockCells, located, onAxes, placingOn, sizes}
+use Rattle.placing.specs.Placing.{blockCells, located, placingOn}
 use Rattle.placing.specs.declared.PlacingAnswer.the-variants.{Placed}
 use Rattle.placing.proofs.place_in_block.Tie as tie
 
@@ -51,7 +52,7 @@ locate-requires-3 : tie.Need-locate-requires-3
 locate-requires-3 c κs = let p = c .before .before in (p .pre .1, p .pre .2, limits p .least3)
 
 check-cell-requires : tie.Need-check-cell-requires
-check-cell-requires c κs = start c .pre .0
+check-cell-requires c κs = search needs
 
 enum-known-refusal : tie.Need-enum-known-refusal
 enum-known-refusal c = search needs

@@ -2,8 +2,8 @@
 use mathlib.Core.Bool.{cond}
 use Prim.Native.Nat.{ℕ}
 use lib.Dec.{leb}
-use Rattle.spline.specs.Place.{Axis}
-use Rattle.placing.specs.Placing.{AxisRanks, axisNumber, onAxes, rankAxes}
+use Rattle.spline.specs.Place.{Axis, onAxes}
+use Rattle.placing.specs.Placing.{AxisRanks, axisNumber, rankAxes}
 use Rattle.placing.specs.declared.ranking.Ranking.{Ranking}
 
 -- three axes in order, by their numbers, with their remainders

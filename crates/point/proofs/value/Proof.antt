@@ -6,44 +6,44 @@ use borrow.Author.Needs.{needs}
 use lib.IntN.{ℤ}
 use denote.Ref.{now}
 use Rattle.unit.specs.declared.Checked.the-variants.{Passed}
-use Rattle.blending.specs.Blend.{blendPlacedChecks}
+use Rattle.blending.specs.Blend.{blendChecks}
 use Rattle.point.proofs.Answers.{value-made, value-refused, value-scaled}
-use Rattle.point.proofs.Blended as blended
 use Rattle.point.proofs.value.Statement.{statement}
 use Rattle.point.specs.declared.PointAnswer.the-variants.{Value}
+use Rattle.point.proofs.Blended as blended
 use Rattle.point.proofs.value.Tie as tie
 
 -- once the placing is blended
 module _ (c : tie.After-enum-told) where
-  -- where the call of blend_placed has returned
-  abbrev made : tie.After-blend-placed
+  -- where the call of blend has returned
+  abbrev made : tie.After-blend
   made = c .before .before
 
   abbrev start : tie.Start
   start = made .before .before .before .before .before
 
   abbrev shifts : List ℤ
-  shifts = made .blend-placed .last .1 .1 .1 .1 .1 .0
+  shifts = made .blend .last .1 .1 .1 .1 .1 .0
 
   abbrev spreads : List ℕ
-  spreads = made .blend-placed .last .1 .1 .1 .1 .1 .1 .0
+  spreads = made .blend .last .1 .1 .1 .1 .1 .1 .0
 
   passed : (let a = start .args in
-      blendPlacedChecks (a .unit) (now (a .net)) (now (a .corrections)) (now (a .uncertainties)) (a .q)
+      blendChecks (a .unit) (now (a .net)) (now (a .corrections)) (now (a .uncertainties)) (a .q)
       ≡ Passed)
-  passed = sym (made .blend-placed .ensures .0) ∙ c .enum-told .given .1
+  passed = sym (made .blend .ensures .0) ∙ c .enum-told .given .1
 
   left : (let a = start .args in
       blended.Blended (a .unit) (now (a .net)) (now (a .corrections)) (now (a .uncertainties)) (a .q) shifts
       spreads)
   left =
-      let b = made .blend-placed .ensures in
+      let b = made .blend .ensures in
       let went = c .enum-told .given .1 in
       blended.blended _ _ _ _ _ _ went (value-scaled _ _ _ _ _ passed) (b .1 .0) (b .1 .1 .0)
       (b .1 .1 .1 went)
 
-blend-placed-requires : tie.Need-blend-placed-requires
-blend-placed-requires c κs = search needs
+blend-requires : tie.Need-blend-requires
+blend-requires c κs = search needs
 
 enum-known-blended : tie.Need-enum-known-blended
 enum-known-blended c = search needs
@@ -51,7 +51,7 @@ enum-known-blended c = search needs
 returns : tie.Need-returns
 returns c =
     value-refused _ _ _ _ _
-    (sym (c .before .before .before .blend-placed .ensures .0) ∙ c .before .blended .given .1)
+    (sym (c .before .before .before .blend .ensures .0) ∙ c .before .blended .given .1)
 
 enum-told : tie.Need-enum-told
 enum-told c = search needs
@@ -67,4 +67,4 @@ returns-2 c =
 pub value-spec : {M : Type 1} → statement M
 value-spec =
     tie.close
-    (tie.spec blend-placed-requires enum-known-blended returns enum-told summed-requires returns-2)
+    (tie.spec blend-requires enum-known-blended returns enum-told summed-requires returns-2)

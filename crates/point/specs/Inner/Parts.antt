@@ -3,7 +3,7 @@ use Prim.Native.Nat.{_*_, _+_, _<_, _≤_, ℕ}
 use lib.IntN.{_*ℤ_, _+ℤ_, natAbs, pos, ℤ}
 use Rattle.sums.specs.Coefficient.{factorial}
 use Rattle.sums.specs.Sum.{sumTo, sumZ}
-use Rattle.placing.specs.Place.{scale}
+use Rattle.limits.specs.Limits.{scale}
 use Rattle.placing.specs.Placing.{weightSum}
 use Rattle.placing.specs.declared.Placing.{Placing}
 use Rattle.blending.specs.LocalPlaces.{localPlaces}

@@ -4,7 +4,7 @@ use mathlib.Core.Path.{_≡_}
 use Prim.Native.Nat.{_*_, _-_, _^_, _≤_, ℕ}
 use lib.ListN.{getD}
 use Rattle.sums.specs.Coefficient.{binomial}
-use Rattle.placing.specs.Place.{limit, scale}
+use Rattle.limits.specs.Limits.{limit, scale}
 use Rattle.placing.specs.Placing.{weightSum}
 use Rattle.placing.specs.declared.Placing.{Placing}
 use Rattle.blending.specs.LocalPlaces.{localAt}

@@ -25,11 +25,11 @@ unfolding sumsOf
 returns c =
     let b = c .before .before .before .before in
     let t = sym (b .before .fits2 .ensures) ∙ b .if1 .taken in
-    simp t (c .before .before .sum-box .ensures)
+    (simp (b .if1 .taken, t), simp t (c .before .before .sum-box .ensures))
 
 returns-2 : tie.Need-returns-2
 unfolding sumsOf
-returns-2 c = simp (sym (c .before .fits2 .ensures) ∙ c .if1 .left)
+returns-2 c = let t = sym (c .before .fits2 .ensures) ∙ c .if1 .left in (simp (c .if1 .left, t), simp t)
 
 pub integrate-spec : {M : Type 1} → statement M
 integrate-spec = tie.close (tie.spec fits-requires sum-box-requires same-length returns returns-2)

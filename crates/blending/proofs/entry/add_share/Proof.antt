@@ -1,20 +1,20 @@
 -- The sums of fewer than 4096 entries have room for one more.
-use borrow.Author.Needs.{needs}
-use Rattle.blending.proofs.entry.add_share.Statement.{statement}
-use Rattle.blending.proofs.entry.add_share.Tie as tie
 use mathlib.Core.Path.{_∙_, _≡_, refl}
 use Prim.Native.Nat.{_*_, _+_, _<_, _^_, _≤_}
 use native.Mathlib.Omega.{arith}
+use borrow.Author.Needs.{needs}
 use lib.IntN.{*ℤ-comm, _*ℤ_, natAbs, pos, ℤ}
 use mir.Facts.{sfits-widen, toZ-ofZ}
 use mir.Syntax.{w16, w64}
 use mir.Val.{SFits, ofZ, toZ}
 use Rattle.sums.proofs.MachineSizes.{fits-size, mul-fits, mul-read}
 use Rattle.sums.proofs.Signed.{abs-mul}
+use Rattle.sums.specs.Fill.{signedAt}
 use Rattle.blending.proofs.Machine.{add-fits, add-read}
 use Rattle.blending.proofs.Steps.{stored}
 use Rattle.blending.proofs.Sweep.{entry-correction, entry-uncertainty}
-use Rattle.blending.specs.Blend.{signedAt}
+use Rattle.blending.proofs.entry.add_share.Statement.{statement}
+use Rattle.blending.proofs.entry.add_share.Tie as tie
 
 -- the correction at this local place so far
 abbrev held : tie.Start → ℤ

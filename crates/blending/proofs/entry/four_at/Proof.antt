@@ -7,8 +7,8 @@ use borrow.Author.Count.{below-more}
 use lib.ListN.{length, length-set, set}
 use lib.Seq.{getD-set-other, getD-set-same}
 use denote.Ref.{now}
+use Rattle.sums.specs.Fill.{numberAt}
 use Rattle.blending.proofs.entry.four_at.Statement.{statement}
-use Rattle.blending.specs.Blend.{numberAt}
 use Rattle.blending.proofs.entry.four_at.Tie as tie
 
 -- the share of an entry at a local place

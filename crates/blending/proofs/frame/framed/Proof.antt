@@ -1,10 +1,8 @@
 -- Each field is the definition's, once the shape is that of the unit's net.
-use borrow.Author.Needs.{needs}
-use Rattle.blending.proofs.frame.framed.Statement.{statement}
-use Rattle.blending.proofs.frame.framed.Tie as tie
 use mathlib.Core.Path.{_∙_, _≡_, ap, refl}
 use Prim.Native.Nat.{_≤_}
 use native.Mathlib.Omega.{arith}
+use borrow.Author.Needs.{needs}
 use Rattle.spline.specs.Multiplicities.{Multiplicities}
 use Rattle.unit.proofs.Limits.{net-limits}
 use Rattle.unit.specs.Unit.{netOf}
@@ -12,7 +10,9 @@ use Rattle.shape.proofs.Shapes.{limits-boxed}
 use Rattle.shape.specs.Inner.Boxes.{Boxed}
 use Rattle.shape.specs.Shape.{shapeOf}
 use Rattle.blending.proofs.Numbers.{count-most}
+use Rattle.blending.proofs.frame.framed.Statement.{statement}
 use Rattle.blending.specs.LocalPlaces.{localPlaces}
+use Rattle.blending.proofs.frame.framed.Tie as tie
 
 module _ (c : tie.After-shape-of) where
   abbrev v : Multiplicities

@@ -1,18 +1,18 @@
 -- The table's rule is one computed test of its entries.
-use borrow.Author.Needs.{needs}
-use Rattle.blending.proofs.local.local_places.Statement.{statement}
-use Rattle.blending.proofs.local.local_places.Tie as tie
 use mathlib.Core.Bool.{true}
 use mathlib.Core.List.{List, [], _∷_}
 use mathlib.Core.Path.{_≡_, refl}
 use Prim.Native.Nat.{_*_, _+_, _/_, _≤_, ℕ}
 use native.Mathlib.Omega.{arith}
+use borrow.Author.Needs.{needs}
 use borrow.Author.Tests.{eqb-true, le-ltb, lt-ltb}
 use lib.Dec.{eqb}
 use lib.ListN.{getD}
 use Rattle.sums.proofs.Search.{all-at}
 use Rattle.sums.specs.Search.{allTo}
+use Rattle.blending.proofs.local.local_places.Statement.{statement}
 use Rattle.blending.specs.LocalPlaces.{localPlaces}
+use Rattle.blending.proofs.local.local_places.Tie as tie
 
 table : List ℕ
 table = 1 ∷ 4 ∷ 10 ∷ 20 ∷ 35 ∷ 56 ∷ 84 ∷ 120 ∷ 165 ∷ 220 ∷ []

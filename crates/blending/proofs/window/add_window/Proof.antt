@@ -9,6 +9,7 @@ use mir.Facts.{toZ-ofZ}
 use mir.Syntax.{w16}
 use mir.Val.{SFits}
 use Rattle.sums.proofs.Search.{nowhere-at}
+use Rattle.sums.specs.Fill.{numberAt, signedAt}
 use Rattle.sums.specs.Search.{at}
 use Rattle.unit.specs.Gaps.{isGap}
 use Rattle.blending.proofs.SoFar.{passed, passed-next}
@@ -17,7 +18,6 @@ use Rattle.blending.proofs.Sweep.{small-more}
 use Rattle.blending.proofs.Turns.{Turn, entries-passed, entrySumsAt, turn-first, turn-hit, turn-next}
 use Rattle.blending.proofs.Turns.{turn-none, turn-sums, turn-within}
 use Rattle.blending.proofs.window.add_window.Statement.{statement}
-use Rattle.blending.specs.Blend.{numberAt, signedAt}
 use Rattle.blending.specs.Inner.Frame.{entryAt}
 use Rattle.blending.specs.Inner.Search.{gapOf, windowGaps}
 use Rattle.blending.specs.Inner.Sums.{Sums, addSums, entrySums, sumsIn}

@@ -1,9 +1,9 @@
 -- A block's index is small.
+use native.Mathlib.Omega.{arith}
 use borrow.Author.Needs.{needs}
+use Rattle.blending.proofs.Indices.{entry-layer, entry-row}
 use Rattle.blending.proofs.window.entry_at.Statement.{statement}
 use Rattle.blending.proofs.window.entry_at.Tie as tie
-use native.Mathlib.Omega.{arith}
-use Rattle.blending.proofs.Indices.{entry-layer, entry-row}
 
 add-result : tie.Need-add-result
 add-result c = search needs

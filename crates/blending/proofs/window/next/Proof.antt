@@ -1,9 +1,9 @@
 -- The tests are the definition's own.
 use borrow.Author.Needs.{needs}
-use Rattle.blending.proofs.window.next.Statement.{statement}
-use Rattle.blending.proofs.window.next.Tie as tie
 use borrow.Author.Tests.{le-ltb, lt-ltb}
+use Rattle.blending.proofs.window.next.Statement.{statement}
 use Rattle.blending.specs.Inner.Window.{positionAfter}
+use Rattle.blending.proofs.window.next.Tie as tie
 
 add-if1 : tie.Need-add-if1
 add-if1 c = search needs

@@ -1,6 +1,4 @@
 -- After t turns the first t offsets are listed, and the local place is the t-th.
-use Rattle.blending.proofs.window.offsets_of.Statement.{statement}
-use Rattle.blending.proofs.window.offsets_of.Tie as tie
 use mathlib.Core.Path.{_∙_, _≡_, ap, refl}
 use Prim.Native.Nat.{_*_, _-_, _<_, _≤_, ℕ}
 use native.Mathlib.Nat.{mul-le-mul}
@@ -9,10 +7,12 @@ use borrow.Author.Count.{below-more}
 use borrow.Author.Needs.{needs}
 use lib.ListN.{getD-replicate, length, length-set, set}
 use lib.Seq.{getD-set-other, getD-set-same}
+use Rattle.sums.specs.Fill.{numberAt}
 use Rattle.blending.proofs.LocalPlaces.{local-next, ordered-at}
-use Rattle.blending.specs.Blend.{numberAt}
+use Rattle.blending.proofs.window.offsets_of.Statement.{statement}
 use Rattle.blending.specs.Inner.Frame.{offsetOf}
 use Rattle.blending.specs.LocalPlaces.{localAt}
+use Rattle.blending.proofs.window.offsets_of.Tie as tie
 
 abbrev Inv-loop : tie.InvT-loop
 Inv-loop f count offsets₀ l₀ t₀ offsets l t =

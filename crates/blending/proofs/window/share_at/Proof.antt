@@ -1,9 +1,9 @@
 -- A net's index is small.
+use native.Mathlib.Omega.{arith}
 use borrow.Author.Needs.{needs}
+use Rattle.blending.proofs.Indices.{share-layer, share-row, share-whole}
 use Rattle.blending.proofs.window.share_at.Statement.{statement}
 use Rattle.blending.proofs.window.share_at.Tie as tie
-use native.Mathlib.Omega.{arith}
-use Rattle.blending.proofs.Indices.{share-layer, share-row, share-whole}
 
 sub-result : tie.Need-sub-result
 sub-result c = search needs

@@ -1,11 +1,12 @@
 -- `put_net` meets its contract: the shape is the net's, and the places' lines follow the line of the box.
 use mathlib.Core.List.{List}
 use mathlib.Core.Path.{_∙_, _≡_, ap, subst, sym}
-use Prim.Native.Nat.{_*_, _+_, _<_, _≤_, ℕ}
-use native.Mathlib.Omega.{arith}
+use Prim.Native.Nat.{_*_, _≤_, ℕ}
 use borrow.Author.Needs.{needs}
 use lib.ListN.{getD, length}
 use denote.Ref.{now}
+use Rattle.text.proofs.Puts.{put-then}
+use Rattle.text.specs.Put.{Put}
 use Rattle.spline.specs.Box.{places, width}
 use Rattle.unit.specs.Unit.{netOf}
 use Rattle.shape.proofs.Shapes.{limits-boxed}
@@ -13,9 +14,7 @@ use Rattle.shape.specs.Inner.Boxes.{Boxed}
 use Rattle.shape.specs.Shape.{shapeOf}
 use Rattle.shape.specs.declared.Shape.{Shape}
 use Rattle.listing.proofs.Printed.{net-lines}
-use Rattle.listing.proofs.Texts.{put-length, put-then}
 use Rattle.listing.proofs.lines.put_net.Statement.{statement}
-use Rattle.listing.specs.Inner.Put.{Put}
 use Rattle.listing.specs.Print.{headerText, placesText}
 use Rattle.listing.proofs.lines.put_net.Tie as tie
 
@@ -39,9 +38,6 @@ module _ (c : tie.After-shape-of) where
   same-places : found .w1 * found .w2 * found .w3 ≡ places (width (netOf (start .args .unit)))
   same-places = ap (λ (s : Shape). s .w1 * s .w2 * s .w3) shape-is
 
-  room : 22 + 16 * (found .w1 * found .w2 * found .w3) ≤ length (now (start .args .out))
-  room = subst (λ (n : ℕ). 22 + 16 * n ≤ length (now (start .args .out))) (sym same-places) (start .pre .fits)
-
 of-unit-requires : tie.Need-of-unit-requires
 of-unit-requires c κs = search needs
 
@@ -49,27 +45,17 @@ shape-of-requires : tie.Need-shape-of-requires
 shape-of-requires c κs = search needs
 
 put-header-requires : tie.Need-put-header-requires
-put-header-requires c κs =
-    let b = boxed (c .before) in (
-      omega (arith, b .most1),
-      omega (arith, b .most2),
-      omega (arith, b .most3),
-      omega (arith, b .degree-most),
-      omega (arith, room (c .before)),
-    )
+put-header-requires c κs = search needs
 
 put-places-requires : tie.Need-put-places-requires
 put-places-requires c κs =
     let g = c .before .before .before .before .before in
     let s = start g in
-    let h = c .before .before .before .put-header .ensures in
     record {
       most1 = boxed g .most1;
       most2 = boxed g .most2;
       most3 = boxed g .most3;
       held = subst (λ (n : ℕ). n ≤ length (now (s .args .net))) (sym (same-places g)) (s .pre .held);
-      small = λ i l. s .pre .small i (subst (λ (n : ℕ). i < n) (same-places g) l);
-      fits = omega (arith, room g, h .1, put-length {u = header g} (h .0));
     }
 
 same-length : tie.Need-same-length
@@ -82,12 +68,10 @@ returns c =
     let h = c .before .before .before .before .before .before .put-header .ensures in
     let p = c .before .before .put-places in
     let f : ℕ → ℕ = λ i. getD (now (s .args .net)) i 0 in
-    let lines = placesText (found g .w1) (found g .w2) (found g .w3) f in (
-      subst (λ (t : List ℕ). Put t (now (s .args .out)) (p .last .0) 0 (p .result))
-          (net-lines (netOf (s .args .unit)) f (found g) (shape-is g))
-          (put-then {u = header g} {v = lines} (h .0) (p .ensures .0)),
-      omega (arith, p .ensures .1, put-length {u = header g} (h .0)),
-    )
+    let lines = placesText (found g .w1) (found g .w2) (found g .w3) f in
+    subst (λ (t : List ℕ). Put t (now (s .args .out)) (p .last .0) 0 (p .result))
+    (net-lines (netOf (s .args .unit)) f (found g) (shape-is g))
+    (put-then {u = header g} {v = lines} h (p .ensures))
 
 pub put-net-spec : {M : Type 1} → statement M
 put-net-spec =

@@ -1,17 +1,17 @@
--- `put_places` meets its contract: before turn i the lines of i places are put, of at most 16 bytes each.
+-- `put_places` meets its contract: before turn i the lines of i places are put.
 use mathlib.Core.List.{List}
 use mathlib.Core.Path.{subst}
-use Prim.Native.Nat.{_%_, _*_, _+_, _-_, _/_, _<_, _≤_, ℕ}
+use Prim.Native.Nat.{_%_, _*_, _-_, _/_, _<_, _≤_, ℕ}
 use native.Mathlib.Nat.{le-antisymm, mul-le-mul}
 use native.Mathlib.Omega.{arith}
 use lib.ListN.{getD}
 use denote.Ref.{now}
 use Rattle.sums.proofs.Places.{box-le, place-in}
-use Rattle.listing.proofs.Texts.{put-joined-next, put-joined-none, put-length}
+use Rattle.text.proofs.Puts.{put-joined-next, put-joined-none, put-length}
+use Rattle.text.specs.Put.{Put}
+use Rattle.text.specs.Text.{joined}
 use Rattle.listing.proofs.lines.put_places.Statement.{statement}
 use Rattle.listing.specs.Print.{placeText, placesText}
-use Rattle.listing.specs.Inner.Put.{Put}
-use Rattle.listing.specs.Text.{joined}
 use Rattle.listing.proofs.lines.put_places.Tie as tie
 
 -- the line of an index
@@ -20,7 +20,7 @@ line net w1 w2 i = placeText (i % w1) (i / w1 % w2) (i / w1 / w2) (getD net i 0)
 
 abbrev Inv-loop : tie.InvT-loop
 Inv-loop out₀ start net w1 w2 w3 n at₀ i₀ out at i =
-    (i ≤ n) × Put (joined (line net w1 w2) i) out₀ out start at × (at ≤ start + 16 * i)
+    (i ≤ n) × Put (joined (line net w1 w2) i) out₀ out start at
 
 abbrev μ-loop : tie.MeasureT-loop
 μ-loop out₀ start net w1 w2 w3 n at₀ i₀ out at i = n - i
@@ -64,7 +64,7 @@ loop-holds : tie.Need-loop-holds Inv-loop μ-loop
 loop-holds c =
     let a = c .before .before .args in
     let f = line (now (a .net)) (a .w1) (a .w2) in
-    (omega arith, put-joined-none f (now (a .out)) (a .start), omega arith)
+    (omega arith, put-joined-none f (now (a .out)) (a .start))
 
 div-q : tie.Need-div-q Inv-loop μ-loop
 div-q c = omega (arith, within c .0)
@@ -87,17 +87,7 @@ shared-slice-read-put-place c =
     omega (arith, inside turn, start turn .pre .held)
 
 put-place-requires : tie.Need-put-place-requires Inv-loop μ-loop
-put-place-requires c κs =
-    let turn = c .before .before in
-    let s = start turn in
-    let l = turn .before .loop in
-    let w = within turn in (
-      omega (arith, w .0, s .pre .most1),
-      omega (arith, w .1, s .pre .most2),
-      omega (arith, w .2, s .pre .most3),
-      s .pre .small (l .i) (inside turn),
-      omega (arith, l .inv .2, inside turn, put-length (l .inv .1), s .pre .fits),
-    )
+put-place-requires c κs = tt
 
 add-i : tie.Need-add-i Inv-loop μ-loop
 add-i c =
@@ -111,9 +101,8 @@ loop-again : tie.Need-loop-again Inv-loop μ-loop
 loop-again c =
     let turn = c .before .before .before .before .before in
     let l = turn .before .loop in
-    let p = c .before .before .put-place .ensures in
     let f = line (now (start turn .args .net)) (w1 turn) (w2 turn) in
-    (omega (arith, inside turn), put-joined-next f (l .i) (l .inv .1) (p .0), omega (arith, l .inv .2, p .1))
+    (omega (arith, inside turn), put-joined-next f (l .i) (l .inv .1) (c .before .before .put-place .ensures))
 
 same-length : tie.Need-same-length Inv-loop μ-loop
 same-length c = put-length (c .before .loop .inv .1)
@@ -121,15 +110,12 @@ same-length c = put-length (c .before .loop .inv .1)
 returns : tie.Need-returns Inv-loop μ-loop
 unfolding placesText
 returns c =
-    let s = c .before .before .before .before in
-    let a = s .args in
+    let a = c .before .before .before .before .args in
     let l = c .before .loop in
-    let f = line (now (a .net)) (a .w1) (a .w2) in (
-      subst (λ (n : ℕ). Put (joined f n) (now (a .out)) (l .out) (a .start) (l .at))
-          (le-antisymm (l .inv .0) (c .loop-test .left))
-          (l .inv .1),
-      omega (arith, l .inv .0, l .inv .2, s .pre .fits),
-    )
+    let f = line (now (a .net)) (a .w1) (a .w2) in
+    subst (λ (n : ℕ). Put (joined f n) (now (a .out)) (l .out) (a .start) (l .at))
+    (le-antisymm (l .inv .0) (c .loop-test .left))
+    (l .inv .1)
 
 pub put-places-spec : {M : Type 1} → statement M
 put-places-spec =

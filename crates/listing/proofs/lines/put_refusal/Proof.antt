@@ -1,22 +1,12 @@
--- `put_refusal` meets its contract: the word takes eight bytes and the number at most eleven, so nineteen do.
-use Prim.Native.Nat.{_<_, _^_, _≤_}
+-- `put_refusal` meets its contract: word and number come one after the other, of at most 19 bytes together.
+use Prim.Native.Nat.{_<_, _^_}
 use native.Mathlib.Omega.{arith}
 use borrow.Author.Needs.{needs}
-use lib.ListN.{length}
-use Rattle.listing.proofs.Texts.{item-length, put-length, put-then}
+use Rattle.text.proofs.Puts.{put-then}
+use Rattle.listing.proofs.Lengths.{refused-length}
 use Rattle.listing.proofs.lines.put_refusal.Statement.{statement}
 use Rattle.listing.specs.Print.{refusedText}
-use Rattle.listing.specs.Text.{item}
 use Rattle.listing.proofs.lines.put_refusal.Tie as tie
-
--- a 32-bit number has at most ten digits
-number-length : (s : tie.Start) → length (item (s .args .refusal .number) 10) ≤ 11
-number-length s =
-    let h : s .args .refusal .number < 10 ^ 10 = omega arith in
-    item-length (s .args .refusal .number) 10 9 h
-
-abbrev start : tie.After-put-word → tie.Start
-start c = c .before .before .before .before
 
 slice-aggregate-put-word : tie.Need-slice-aggregate-put-word
 slice-aggregate-put-word c = search needs
@@ -28,10 +18,7 @@ cast-put-item : tie.Need-cast-put-item
 cast-put-item c = search needs
 
 put-item-requires : tie.Need-put-item-requires
-put-item-requires c κs =
-    let w = c .before .before .before .before in
-    let p = w .put-word .ensures in
-    omega (arith, start w .pre, p .goes-on, put-length p, number-length (start w))
+put-item-requires c κs = search needs
 
 same-length : tie.Need-same-length
 same-length c = search needs
@@ -40,9 +27,9 @@ returns : tie.Need-returns
 unfolding refusedText
 returns c =
     let w = c .before .before .before .before .before .before .before in
-    let u = w .put-word .ensures in
-    let p = c .before .before .put-item .ensures in
-    (put-then u p, omega (arith, start w .pre, u .goes-on, p .goes-on, number-length (start w)))
+    let r = w .before .before .before .before .args .refusal in
+    let h : r .number < 10 ^ 10 = omega arith in
+    (put-then (w .put-word .ensures) (c .before .before .put-item .ensures), refused-length r h)
 
 pub put-refusal-spec : {M : Type 1} → statement M
 put-refusal-spec =

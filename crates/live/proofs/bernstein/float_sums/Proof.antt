@@ -4,19 +4,19 @@ use Prim.Native.Nat.{_-_, _<_, _≤_, ℕ}
 use native.Mathlib.Omega.{arith}
 use borrow.Author.Needs.{needs}
 use lib.IntN.{pos}
+use Rattle.sums.specs.Fill.{numberAt, signedAt}
 use Rattle.blending.proofs.LocalPlaces.{local-next, ordered-at}
 use Rattle.blending.proofs.Numbers.{count-least, count-most, degree-at}
-use Rattle.blending.specs.Blend.{numberAt, signedAt}
 use Rattle.blending.specs.LocalPlaces.{localAt, localPlaces}
 use Rattle.blending.specs.declared.local.LocalPlace.{LocalPlace}
 use Rattle.point.proofs.Weights.{powers-within}
 use Rattle.point.specs.Bernstein.{termWeight}
 use Rattle.point.specs.Inner.Weights.{weightAt}
-use Rattle.live.proofs.Sizes as sizes
 use Rattle.live.proofs.Totals.{sum-none}
 use Rattle.live.proofs.Turns.{Numerator, Uncertainty, next-numerator, next-uncertainty, sized}
 use Rattle.live.proofs.bernstein.float_sums.Statement.{statement}
 use Rattle.live.specs.Answer.{float}
+use Rattle.live.proofs.Sizes as sizes
 use Rattle.live.proofs.bernstein.float_sums.Tie as tie
 
 abbrev Inv-loop : tie.InvT-loop

@@ -5,14 +5,14 @@ use native.Mathlib.Omega.{arith}
 use borrow.Author.Needs.{needs}
 use lib.IntN.{pos}
 use Rattle.sums.specs.Coefficient.{binomial}
-use Rattle.placing.specs.Place.{limit}
+use Rattle.limits.specs.Limits.{limit}
 use Rattle.placing.specs.Placing.{weightSum}
-use Rattle.point.proofs.Weights as weights
 use Rattle.point.specs.Bernstein.{termWeight}
 use Rattle.point.specs.Inner.Weights.{Tables}
 use Rattle.live.proofs.Products.{float-product}
 use Rattle.live.proofs.bernstein.weight.Statement.{statement}
 use Rattle.live.specs.Answer.{float}
+use Rattle.point.proofs.Weights as weights
 use Rattle.live.proofs.bernstein.weight.Tie as tie
 
 module _ (s : tie.Start) where

@@ -1,122 +1,36 @@
--- After t turns the net slice holds what the first t bytes build, over what it held at the start.
+-- After t turns the bytes from t on are left to take up, and lead from here to where all of them do.
 use mathlib.Core.List.{List, []}
 use mathlib.Core.Path.{_∙_, _≡_, ap, refl, sym}
-use Prim.Native.Nat.{_+_, _-_, _<_, _≤_, ℕ}
-use native.Mathlib.Nat.{le-antisymm, le-refl, le-trans}
+use Prim.Native.Nat.{_-_, _<_, _≤_, ℕ}
+use native.Mathlib.Nat.{le-antisymm}
 use native.Mathlib.Omega.{arith}
-use lib.ListN.{getD, length, take}
-use lib.Seq.{take-length}
+use lib.ListN.{drop, getD, length, take}
 use denote.Ref.{now}
-use Rattle.sums.proofs.Fill.{length-filled, rebase-in, refill, take-filled}
-use Rattle.sums.specs.Fill.{filled}
-use Rattle.spline.specs.Box.{netList}
-use Rattle.spline.specs.Build.{direction, orderNet}
-use Rattle.spline.specs.Inner.Limits.{Limits}
-use Rattle.spline.specs.Multiplicities.{Multiplicities, more, orderMultiplicities}
-use Rattle.spline.specs.Place.{Direction}
+use Rattle.sums.proofs.Fill.{length-filled}
+use Rattle.spline.specs.Build.{direction}
+use Rattle.spline.specs.Multiplicities.{more, orderMultiplicities}
 use Rattle.shape.specs.Shape.{counted}
 use Rattle.net.proofs.Orders.{good-byte, multiplicities-next, prefix-limits}
-use Rattle.net.proofs.Orders.{prefix-next, prefix-places}
-use Rattle.net.proofs.TakenUp.{between-length, taken-up}
+use Rattle.net.proofs.Repeats.{net-length, none-left, one-less, work-length}
 use Rattle.net.proofs.repeat.run.Statement.{statement}
-use Rattle.net.specs.Order.{orderNumber, orderPlaces, orderWidth}
-use Rattle.net.specs.Repeat.{netRepeated, workBetween}
+use Rattle.net.specs.Order.{orderNumber}
+use Rattle.net.specs.Repeat.{Slices, repeats, slices, takenUp}
 use Rattle.net.proofs.repeat.run.Tie as tie
 
 abbrev Inv-loop : tie.InvT-loop
 Inv-loop order net₀ work₀ c₀ t₀ net work c t =
     (t ≤ length order) × (counted c ≡ orderMultiplicities (take t order))
-    × (net ≡ filled (orderNumber (take t order)) (orderPlaces (take t order)) net₀)
+    × (repeats (drop t order) (counted c) (slices net work) ≡ repeats order (counted c₀) (slices net₀ work₀))
     × (length net ≡ length net₀) × (length work ≡ length work₀)
 
 abbrev μ-loop : tie.MeasureT-loop
 μ-loop order net₀ work₀ c₀ t₀ net work c t = length order - t
 
--- what the slice holds after t bytes
-held : (o : List ℕ) (base : List ℕ)
-    → take (orderPlaces o) (filled (orderNumber o) (orderPlaces o) base) ≡ netList (orderWidth o) (orderNet o)
-unfolding netList
-held o base = take-filled (orderNumber o) (orderPlaces o) (orderPlaces o) base (le-refl (orderPlaces o))
-
-module _ (l : tie.At-loop Inv-loop μ-loop) where
-  abbrev start : tie.Start Inv-loop μ-loop
-  start = l .before .before .before .before .before .before .before
-
-  abbrev o : List ℕ
-  o = now (start .args .order)
-
-  abbrev t : ℕ
-  t = l .loop .t
-
-  abbrev d : Direction
-  d = direction (getD o t 0)
-
-  -- what the slice holds before the loop
-  abbrev base : List ℕ
-  base = l .before .before .before .lay-simple .last .0
-
-  laid-length : length base ≡ length (now (start .args .net))
-  laid-length =
-      ap length (l .before .before .before .lay-simple .ensures)
-      ∙ length-filled (orderNumber []) 27 (now (start .args .net))
-      (le-trans (prefix-places o 0) (start .pre .1 .0))
-
-  net-room : orderPlaces o ≤ length (l .loop .net)
-  net-room = omega (arith, l .loop .inv .3, laid-length, start .pre .1 .0)
-
-  -- a byte is taken up
-  module _ (byte : t < length o) where
-    abbrev before : List ℕ
-    before = take t o
-
-    abbrev after : List ℕ
-    after = take (t + 1) o
-
-    good : (1 ≤ getD o t 0) × (getD o t 0 ≤ 4)
-    good = good-byte o (start .pre .0) t byte
-
-    limits : Limits (counted (l .loop .c)) 11
-    limits =
-        prefix-limits o t 11 (counted (l .loop .c)) (l .loop .inv .1) (omega arith)
-        (omega (arith, start .pre .0 .short))
-
-    work-room : orderPlaces o ≤ length (l .loop .work)
-    work-room = omega (arith, start .pre .1 .1, l .loop .inv .4)
-
-    holds : take (orderPlaces before) (l .loop .net) ≡ netList (orderWidth before) (orderNet before)
-    holds = ap (λ (r : List ℕ). take (orderPlaces before) r) (l .loop .inv .2) ∙ held before base
-
-    -- both halves leave what one byte more builds, over what the slice held before the loop
-    repeats : netRepeated d (counted (l .loop .c)) (l .loop .net) (l .loop .work)
-        ≡ filled (orderNumber after) (orderPlaces after) base
-    repeats =
-        ap (λ (v : Multiplicities). netRepeated d v (l .loop .net) (l .loop .work)) (l .loop .inv .1)
-        ∙ taken-up o (start .pre .0) t byte (l .loop .net) (l .loop .work) net-room work-room holds
-        ∙ ap (λ (n : List ℕ). filled (orderNumber after) (orderPlaces after) n) (l .loop .inv .2)
-        ∙ refill (orderNumber after) (orderNumber before) (orderPlaces before) (orderPlaces after) base
-        (prefix-next o t)
-
-    same-room : length (filled (orderNumber after) (orderPlaces after) base) ≡ length base
-    same-room =
-        length-filled (orderNumber after) (orderPlaces after) base
-        (le-trans (prefix-places o (t + 1)) (omega (arith, net-room, l .loop .inv .3)))
-
-    kept : length (workBetween d (counted (l .loop .c)) (l .loop .net) (l .loop .work))
-        ≡ length (l .loop .work)
-    kept =
-        ap (λ (v : Multiplicities). length (workBetween d v (l .loop .net) (l .loop .work))) (l .loop .inv .1)
-        ∙ between-length o (start .pre .0) t byte (l .loop .net) (l .loop .work) net-room work-room holds
-
 lay-simple-requires : tie.Need-lay-simple-requires Inv-loop μ-loop
-lay-simple-requires c κs =
-    let s = c .before .before .before in
-    omega (arith, prefix-places (now (s .args .order)) 0, s .pre .1 .0)
+lay-simple-requires c κs = c .before .before .before .pre .1
 
 loop-holds : tie.Need-loop-holds Inv-loop μ-loop
-loop-holds c =
-    let net = now (c .before .before .before .before .before .before .args .net) in
-    let laid = c .before .before .lay-simple in
-    (omega arith, refl, rebase-in (orderNumber []) net (laid .last .0) 27 (laid .ensures), refl, refl)
+loop-holds c = (omega arith, refl, refl, refl, refl)
 
 shared-slice-read-take-up : tie.Need-shared-slice-read-take-up Inv-loop μ-loop
 shared-slice-read-take-up c = omega arith
@@ -124,8 +38,15 @@ shared-slice-read-take-up c = omega arith
 take-up-requires : tie.Need-take-up-requires Inv-loop μ-loop
 take-up-requires c κs =
     let l = c .before .before .before .before in
-    let g = good l (omega arith) in
-    (g .0, g .1, limits l (omega arith))
+    let s = l .before .before .before .before .before .before .before in
+    let o = now (s .args .order) in
+    let t = l .loop .t in
+    let byte = good-byte o (s .pre .0) t (omega arith) in (
+      byte .0,
+      byte .1,
+      prefix-limits o t 11 (counted (l .loop .c)) (l .loop .inv .1) (omega arith)
+          (omega (arith, s .pre .0 .short)),
+    )
 
 add-t : tie.Need-add-t Inv-loop μ-loop
 add-t c = omega arith
@@ -136,38 +57,48 @@ loop-less c = omega arith
 loop-again : tie.Need-loop-again Inv-loop μ-loop
 loop-again c =
     let l = c .before .before .before .before .before .before .before .before in
-    let h : l .loop .t < length (o l) = omega arith in
+    let o = now (l .before .before .before .before .before .before .before .args .order) in
+    let t = l .loop .t in
+    let byte : t < length o = omega arith in
+    let d = direction (getD o t 0) in
+    let v = counted (l .loop .c) in
+    let net = l .loop .net in
+    let work = l .loop .work in
     let f = c .before .before .before .take-up in (
       omega arith,
-      f .ensures .0
-          ∙ ap (more (d l)) (l .loop .inv .1)
-          ∙ sym (multiplicities-next (o l) (l .loop .t) h),
-      f .ensures .1 .1 ∙ repeats l h,
-      ap length (f .ensures .1 .1 ∙ repeats l h) ∙ same-room l h,
-      ap length (f .ensures .1 .0) ∙ kept l h ∙ l .loop .inv .4,
+      f .ensures .0 ∙ ap (more d) (l .loop .inv .1) ∙ sym (multiplicities-next o t byte),
+      one-less o t byte v (counted (f .result)) net _ work _ (f .ensures .0) (f .ensures .1 .0)
+          (f .ensures .1 .1)
+          ∙ l .loop .inv .2,
+      ap length (f .ensures .1 .1) ∙ net-length d v net work ∙ l .loop .inv .3,
+      ap length (f .ensures .1 .0) ∙ work-length d v net work ∙ l .loop .inv .4,
     )
 
 same-length : tie.Need-same-length Inv-loop μ-loop
-same-length c = c .before .loop .inv .3 ∙ laid-length (c .before)
+same-length c =
+    let laid = c .before .before .before .before .lay-simple in
+    let s = c .before .before .before .before .before .before .before .before in
+    c .before .loop .inv .3
+    ∙ ap length (laid .ensures)
+    ∙ length-filled (orderNumber []) 27 (now (s .args .net)) (s .pre .1)
 
 same-length-2 : tie.Need-same-length-2 Inv-loop μ-loop
 same-length-2 c = c .before .loop .inv .4
 
 returns : tie.Need-returns Inv-loop μ-loop
+unfolding takenUp
 returns c =
     let l = c .before in
-    let s = start l in
-    let o = now (s .args .order) in
-    let net = now (s .args .net) in
-    let laid = l .before .before .before .lay-simple .ensures in
+    let a = l .before .before .before .before .before .before .before .args in
+    let o = now (a .order) in
+    let work = now (a .work) in
     let end = le-antisymm (l .loop .inv .0) (c .loop-test .left) in
-    let all = ap (λ (n : ℕ). take n o) end ∙ take-length o in (
-      l .loop .inv .2
-          ∙ ap (λ (p : List ℕ). filled (orderNumber p) (orderPlaces p) (base l)) all
-          ∙ ap (λ (n : List ℕ). filled (orderNumber o) (orderPlaces o) n) laid
-          ∙ refill (orderNumber o) (orderNumber []) 27 (orderPlaces o) net (prefix-places o 0),
-      l .loop .inv .4,
-    )
+    let all : slices (l .loop .net) (l .loop .work) ≡ takenUp o (now (a .net)) work
+    = sym (none-left o (l .loop .t) (counted (l .loop .c)) _ end)
+    ∙ l .loop .inv .2
+    ∙ ap (λ (n : List ℕ). repeats o (orderMultiplicities []) (slices n work))
+    (l .before .before .before .lay-simple .ensures) in
+    (ap (λ (s : Slices). s .net) all, ap (λ (s : Slices). s .work) all)
 
 pub run-spec : {M : Type 1} → statement M
 run-spec =

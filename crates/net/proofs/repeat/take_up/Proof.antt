@@ -60,7 +60,7 @@ returns c =
     (old .shape-of .result) (new .shape-of2 .result)
     (now (s .net)) (second .last .1 .1 .0) (now (s .work)) (first .last .1 .1 .1 .1 .0)
     (next .one-more .ensures) (old .shape-of .ensures .0) (new .shape-of2 .ensures .0)
-    (first .ensures) (second .ensures) in
+    (first .ensures .1) (second .ensures .1) in
     (next .one-more .ensures, (left .0, left .1))
 
 pub take-up-spec : {M : Type 1} → statement M

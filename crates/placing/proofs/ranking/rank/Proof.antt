@@ -3,10 +3,10 @@ use mathlib.Core.Path.{_∙_}
 use native.Mathlib.Omega.{arith}
 use borrow.Author.Needs.{needs}
 use borrow.Author.Tests.{le-leb, lt-leb}
-use Rattle.spline.specs.Place.{a1, a2}
+use Rattle.spline.specs.Place.{a1, a2, onAxes}
 use Rattle.placing.proofs.Ranks.{third-ranked}
 use Rattle.placing.proofs.ranking.rank.Statement.{statement}
-use Rattle.placing.specs.Placing.{onAxes, rankAxes}
+use Rattle.placing.specs.Placing.{rankAxes}
 use Rattle.placing.proofs.ranking.rank.Tie as tie
 
 with-third-requires : tie.Need-with-third-requires

@@ -1,6 +1,4 @@
 -- After t turns the sum is that of the first t local places, and the local place is the t-th.
-use Rattle.point.proofs.bernstein.bernstein_sums.Statement.{statement}
-use Rattle.point.proofs.bernstein.bernstein_sums.Tie as tie
 use mathlib.Core.Path.{_∙_, _≡_, ap, ap₂}
 use Prim.Native.Nat.{_-_, _<_, _≤_}
 use native.Mathlib.Omega.{arith}
@@ -9,17 +7,19 @@ use mir.Facts.{toZ-ofZ}
 use mir.Syntax.{w64}
 use mir.Val.{SFits}
 use Rattle.sums.proofs.Coefficient.{factorial-nine}
+use Rattle.sums.specs.Fill.{numberAt, signedAt}
 use Rattle.blending.proofs.LocalPlaces.{local-next, ordered-at}
 use Rattle.blending.proofs.Numbers.{count-most, degree-at}
-use Rattle.blending.specs.Blend.{numberAt, signedAt}
 use Rattle.blending.specs.LocalPlaces.{localAt, localPlaces}
+use Rattle.blending.specs.declared.local.LocalPlace.{LocalPlace}
 use Rattle.point.proofs.Parts.{next-numerator, next-uncertainty, parts-next, parts-none, shift-size}
 use Rattle.point.proofs.Parts.{shift-weighed, spread-weighed}
 use Rattle.point.proofs.Weights.{powers-within, table-held}
-use Rattle.blending.specs.declared.local.LocalPlace.{LocalPlace}
+use Rattle.point.proofs.bernstein.bernstein_sums.Statement.{statement}
 use Rattle.point.specs.Bernstein.{termWeight}
 use Rattle.point.specs.Inner.Parts.{addParts, firstParts, weighed}
 use Rattle.point.specs.Inner.Weights.{weightAt}
+use Rattle.point.proofs.bernstein.bernstein_sums.Tie as tie
 
 abbrev Inv-loop : tie.InvT-loop
 Inv-loop m q shifts spreads b x0 x1 x2 x3 count sum₀ l₀ t₀ sum l t =

@@ -4,8 +4,8 @@ use Prim.Native.Nat.{_*_, _+_, _-_, _≤_, ℕ}
 use native.Mathlib.Nat.{mul-le-mul}
 use native.Mathlib.Omega.{arith}
 use borrow.Author.Needs.{needs}
-use Rattle.placing.proofs.Scale.{scale-le, scale-next, scale-zero}
-use Rattle.placing.specs.Place.{limit, scale}
+use Rattle.limits.proofs.Scale.{scale-le, scale-next, scale-zero}
+use Rattle.limits.specs.Limits.{limit, scale}
 use Rattle.point.proofs.bernstein.denominator.Statement.{statement}
 use Rattle.point.proofs.bernstein.denominator.Tie as tie
 

@@ -1,10 +1,10 @@
 -- The sizes of the factors bound the products.
-use borrow.Author.Needs.{needs}
-use Rattle.point.proofs.bernstein.term.Statement.{statement}
-use Rattle.point.proofs.bernstein.term.Tie as tie
 use mathlib.Core.Path.{refl}
+use borrow.Author.Needs.{needs}
 use mir.Syntax.{w64}
 use Rattle.sums.proofs.MachineSizes.{mul-fits, mul-read}
+use Rattle.point.proofs.bernstein.term.Statement.{statement}
+use Rattle.point.proofs.bernstein.term.Tie as tie
 
 cast-t4 : tie.Need-cast-t4
 cast-t4 c = search needs

@@ -3,12 +3,12 @@ use mathlib.Core.Path.{_∙_, _≡_, ap}
 use Prim.Native.Nat.{_*_, _-_, _≤_, ℕ}
 use native.Mathlib.Omega.{arith}
 use borrow.Author.Needs.{needs}
-use Rattle.placing.specs.Place.{limit}
-use Rattle.blending.specs.Blend.{numberAt}
-use Rattle.point.proofs.Weights as weights
+use Rattle.sums.specs.Fill.{numberAt}
+use Rattle.limits.specs.Limits.{limit}
 use Rattle.point.proofs.bernstein.weight.Statement.{statement}
 use Rattle.point.specs.Bernstein.{termWeight}
 use Rattle.point.specs.Inner.Weights.{factor}
+use Rattle.point.proofs.Weights as weights
 use Rattle.point.proofs.bernstein.weight.Tie as tie
 
 module _ (s : tie.Start) where

@@ -1,12 +1,12 @@
 -- The factor and the product fit because the caller's bounds are on exactly these.
-use borrow.Author.Needs.{needs}
-use Rattle.point.proofs.bernstein.with_factor.Statement.{statement}
-use Rattle.point.proofs.bernstein.with_factor.Tie as tie
 use mathlib.Core.List.{[]}
 use mathlib.Core.Path.{_≡_, refl}
 use native.Mathlib.Omega.{arith}
+use borrow.Author.Needs.{needs}
 use lib.ListN.{getD}
 use Rattle.sums.specs.Coefficient.{binomial}
+use Rattle.point.proofs.bernstein.with_factor.Statement.{statement}
+use Rattle.point.proofs.bernstein.with_factor.Tie as tie
 
 binomial-is : (s : tie.Start) → (let a = s .args in
     getD (getD (a .b .now) (a .n) []) (a .k) 0 ≡ binomial (a .n) (a .k))

@@ -1,62 +1,23 @@
 -- Where no number stands before a place, its own is what 32 bits hold of the entry.
-use mathlib.Core.Path.{_∙_, _≡_, ap, refl}
-use Prim.Native.Nat.{_-_, _≤_, ℕ}
-use native.Mathlib.Nat.{le-antisymm}
+use mathlib.Core.Path.{refl}
+use Prim.Native.Nat.{_-_}
 use native.Mathlib.Omega.{arith}
-use borrow.Author.Needs.{needs}
-use lib.IntN.{pos, ℤ}
-use lib.ListN.{getD, length, length-set}
-use denote.Ref.{now}
-use mir.Facts.{toZ-ofZ}
-use mir.Syntax.{w32}
-use mir.Val.{SFits, ofZ, toZ}
-use Rattle.sums.specs.Fill.{filled}
-use Rattle.summations.proofs.LineRows.{stored}
+use Rattle.summations.proofs.RowLoops.{Upto, begun, ended, turned}
 use Rattle.summations.proofs.row.sum_edge.Statement.{statement}
-use Rattle.summations.specs.Inner.Rows.{RowSums, none}
+use Rattle.summations.specs.Inner.Rows.{none}
 use Rattle.summations.proofs.row.sum_edge.Tie as tie
 
 abbrev Inv-loop : tie.InvT-loop
-Inv-loop net₀ work a e i₀ net i =
-    (a ≤ i) × (i ≤ e) × (length net ≡ length net₀)
-    × ((r : RowSums none a e work net₀) → net ≡ filled (r .number) i net₀)
+Inv-loop net₀ work a e i₀ net i = Upto none a e work net₀ net i
 
 abbrev μ-loop : tie.MeasureT-loop
 μ-loop net₀ work a e i₀ net i = e - i
 
--- in a turn, where the entry is read
-module _ (c : tie.After-plus-arg Inv-loop μ-loop) where
-  abbrev start : tie.Start Inv-loop μ-loop
-  start = c .before .before .before .before
-
-  abbrev at : ℕ
-  at = c .before .before .loop .i
-
-  abbrev read : ℤ
-  read = getD (now (start .args .work)) at (pos 0)
-
-  entry : toZ w32 (ofZ w32 read) ≡ read
-  entry =
-      let fits : SFits w32 read = record { sfits = c .plus-arg .given } in
-      toZ-ofZ fits
-
 loop-holds : tie.Need-loop-holds Inv-loop μ-loop
-loop-holds c = (omega arith, omega arith, refl, λ r. r .start)
+loop-holds c = begun (omega arith)
 
-mul-plus : tie.Need-mul-plus Inv-loop μ-loop
-mul-plus c = omega arith
-
-shared-slice-copy-out-plus : tie.Need-shared-slice-copy-out-plus Inv-loop μ-loop
-shared-slice-copy-out-plus c = omega arith
-
-plus-requires : tie.Need-plus-requires Inv-loop μ-loop
-plus-requires c κs = search needs
-
-mul-net : tie.Need-mul-net Inv-loop μ-loop
-mul-net c = omega arith
-
-slice-write-net : tie.Need-slice-write-net Inv-loop μ-loop
-slice-write-net c = omega arith
+put-requires : tie.Need-put-requires Inv-loop μ-loop
+put-requires c κs = (omega arith, omega arith)
 
 add-i : tie.Need-add-i Inv-loop μ-loop
 add-i c = omega arith
@@ -66,24 +27,15 @@ loop-less c = omega arith
 
 loop-again : tie.Need-loop-again Inv-loop μ-loop
 loop-again c =
-    let b = c .before in
-    let l = c .before .before .before .loop in (
-      omega arith,
-      omega arith,
-      simp length-set (l .inv .2),
-      λ r. stored r (at b) (omega arith) (omega arith) 0 _ (c .plus .result) refl (entry b) (c .plus .ensures)
-          (l .net) (l .inv .3 r) (start b .pre .1),
-    )
+    let l = c .before .before .before .before .before .loop in
+    let p = c .before .before .put in
+    turned (l .inv) (omega arith) 0 (p .result) (λ r. refl) (p .ensures .0) _ (p .ensures .1) (omega arith)
 
 same-length : tie.Need-same-length Inv-loop μ-loop
-same-length c = c .before .loop .inv .2
+same-length c = c .before .loop .inv .same
 
 returns : tie.Need-returns Inv-loop μ-loop
-returns c =
-    let l = c .before .loop in
-    let net = now (c .before .before .before .args .net) in
-    let done = le-antisymm (l .inv .1) (c .loop-test .left) in
-    λ r. l .inv .3 r ∙ ap (λ (k : ℕ). filled (r .number) k net) done
+returns c = ended (c .before .loop .inv) (c .loop-test .left)
 
 pub sum-edge-spec : {M : Type 1} → statement M
 sum-edge-spec =
@@ -92,11 +44,7 @@ sum-edge-spec =
     Inv-loop
     μ-loop
     loop-holds
-    mul-plus
-    shared-slice-copy-out-plus
-    plus-requires
-    mul-net
-    slice-write-net
+    put-requires
     add-i
     loop-less
     loop-again

@@ -1,8 +1,8 @@
 -- The definition's first one.
-use Rattle.blending.proofs.local.LocalPlace.first.Statement.{statement}
-use Rattle.blending.proofs.local.LocalPlace.first.Tie as tie
 use mathlib.Core.Path.{refl}
+use Rattle.blending.proofs.local.LocalPlace.first.Statement.{statement}
 use Rattle.blending.specs.LocalPlaces.{localAt}
+use Rattle.blending.proofs.local.LocalPlace.first.Tie as tie
 
 returns : tie.Need-returns
 unfolding localAt

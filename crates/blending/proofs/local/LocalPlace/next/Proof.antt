@@ -1,9 +1,9 @@
 -- The tests are the definition's own.
 use borrow.Author.Needs.{needs}
-use Rattle.blending.proofs.local.LocalPlace.next.Statement.{statement}
-use Rattle.blending.proofs.local.LocalPlace.next.Tie as tie
 use borrow.Author.Tests.{le-ltb, lt-ltb}
+use Rattle.blending.proofs.local.LocalPlace.next.Statement.{statement}
 use Rattle.blending.specs.LocalPlaces.{localAfter}
+use Rattle.blending.proofs.local.LocalPlace.next.Tie as tie
 
 add-t3 : tie.Need-add-t3
 add-t3 c = search needs

@@ -1,0 +1,4 @@
+pub mod Refusals
+pub mod Records
+pub mod Figures
+pub mod FurtherFigures

@@ -1,0 +1,2 @@
+pub mod FileChecks
+pub mod Inner
