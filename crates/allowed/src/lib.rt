@@ -1,4 +1,6 @@
 // Which multiplicities and which sizes of a block are allowed. docs/SPECIFICATION.md, Sections 2.2, 4.3.
+#![tactic(auto)]
+
 ghost use Rattle.std.specs.Prelude.{◌≡◌};
 ghost use Rattle.spline.specs.Multiplicities.{allowed, multiplicities};
 ghost use Rattle.allowed.specs.Allowed.{size_allowed, sizes_allowed};

@@ -1,9 +1,11 @@
 // What points and placings are answered with, exact and live: the kinds of answers, their definitions in
 // specs/ (Section 11), and laws on placing and valuing in turn. No functions.
+#![tactic(auto)]
+
 use checks::Refusal;
 
 // The exact fraction of an answered point: N and U over m!×D^m, unreduced.
-#[derive(Drop)]
+#[derive(Clone, Copy)]
 pub struct Fraction {
     pub numerator: i64,
     pub uncertainty: u64,
@@ -11,14 +13,14 @@ pub struct Fraction {
 }
 
 // What a point call or a valuing call answers.
-#[derive(Drop)]
+#[derive(Clone, Copy)]
 pub enum PointAnswer {
     Value(Fraction),
     Refused(Refusal),
 }
 
 // N and U of an answered point as 64-bit floats.
-#[derive(Drop)]
+#[derive(Clone, Copy)]
 pub struct Floats {
     pub numerator: f64,
     pub uncertainty: f64,
@@ -26,7 +28,7 @@ pub struct Floats {
 
 // What a live call or a live valuing call answers: both floats, or N alone where the uncertainty is switched
 // off.
-#[derive(Drop)]
+#[derive(Clone, Copy)]
 pub enum LiveAnswer {
     Both(Floats),
     Shift(f64),

@@ -1,4 +1,6 @@
 // The placing of a point that is located on each axis: axis order and weights. Sections 9.3 and 9.4.
+#![tactic(auto)]
+
 ghost use Rattle.std.specs.Prelude.{◌≡◌, ◌-◌};
 ghost use Rattle.axis_order.specs.Weights.{placing_on, weight_sum};
 
@@ -9,7 +11,7 @@ mod ranking;
 // k on the three axes, the axes in the order p, r, s, and the weights, whose sum is D. Any values may stand
 // in it; a call that is handed one looks whether the placing call gives it. It is laid out for C.
 #[repr(C)]
-#[derive(Drop)]
+#[derive(Clone, Copy)]
 pub struct Placing {
     pub k1: u32,
     pub k2: u32,

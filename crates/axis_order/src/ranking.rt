@@ -3,7 +3,7 @@ ghost use Rattle.std.specs.Prelude.{◌≡◌};
 ghost use Rattle.axis_order.specs.Inner.Ranking.{ranked, third_among};
 
 // The axes p, r, s and their remainders.
-#[derive(Drop)]
+#[derive(Clone, Copy)]
 pub(crate) struct Ranking {
     pub(crate) p: u8,
     pub(crate) r: u8,

@@ -1,4 +1,6 @@
 // The binomials of the weights of a point: Section 11.1.
+#![tactic(auto)]
+
 ghost use Rattle.std.specs.Prelude.{◌≡◌};
 ghost use Rattle.binomials.specs.Binomials.{binomial_table};
 

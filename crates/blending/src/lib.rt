@@ -1,5 +1,7 @@
 // The blended numbers at a placing: from unit, net and block the blended correction and uncertainty at every
 // local place of its tetrahedron, or the refusal that applies. Section 10.
+#![tactic(auto)]
+
 ghost use Rattle.std.specs.Prelude.{◌≡◌, ◌≤◌, length};
 ghost use Rattle.sums.specs.Fill.{filled, number_at, signed_at};
 ghost use Rattle.checks.specs.declared.Checked.TheVariants.{Passed};

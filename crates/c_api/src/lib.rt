@@ -2,6 +2,8 @@
 // unit, and answer a flat struct in the place of an enum. Any bytes may stand in the record.
 // include/torskavel.h declares the calls, and says what such a caller owes.
 // docs/SPECIFICATION.md, Section 12.
+#![tactic(auto)]
+
 ghost use Rattle.std.specs.Prelude.{◌≡◌, length};
 ghost use Rattle.spline.specs.Multiplicities.{multiplicities};
 ghost use Rattle.builds.specs.Build.{build_answer, build_net, BuildWork};

@@ -1,4 +1,6 @@
 // Which cells are inside, and check 12 of a cell. Section 9.2.
+#![tactic(auto)]
+
 ghost use Rattle.std.specs.Prelude.{◌≡◌, ◌+◌};
 ghost use Rattle.spline.specs.Place.{on_axes};
 ghost use Rattle.unit.specs.Unit.{net_of, sizes};

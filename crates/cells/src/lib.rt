@@ -1,5 +1,7 @@
 // Cells and remainders of coordinates, and the pivot that remainders are compared with.
 // docs/SPECIFICATION.md, Section 6.3.
+#![tactic(auto)]
+
 ghost use Rattle.std.specs.Prelude.{cond, ◌≡◌, ltb};
 ghost use Rattle.spline.specs.Build.{direction};
 ghost use Rattle.spline.specs.Rule.{lower_above};
@@ -33,7 +35,7 @@ pub fn lower(p: usize, u: usize) -> usize
 }
 
 // The cell and the remainder of a coordinate: `base` counts the lowered places of the cells before it, g×k.
-#[derive(Drop)]
+#[derive(Clone, Copy)]
 pub struct Cell {
     pub base: usize,
     pub u: usize,

@@ -1,16 +1,18 @@
 // Checks and refusals: what the checks of a call find, in their order. docs/SPECIFICATION.md, Section 5.
+#![tactic(auto)]
+
 ghost use Rattle.std.specs.Prelude.{◌≡◌};
 ghost use Rattle.checks.specs.Checks.{and_then, refusal};
 
 // A refusal: its number, and the place that it speaks of, 0 where it speaks of none.
-#[derive(Drop)]
+#[derive(Clone, Copy)]
 pub struct Refusal {
     pub number: u32,
     pub place: usize,
 }
 
 // What the checks of a call find: the first that applies stops them.
-#[derive(Drop)]
+#[derive(Clone, Copy)]
 pub enum Checked {
     Passed,
     Stopped(Refusal),

@@ -1,4 +1,6 @@
 // Check 14 of an inspection: a net beside the defined one. docs/SPECIFICATION.md, Section 7.
+#![tactic(auto)]
+
 ghost use Rattle.std.specs.Prelude.{◌≡◌, ◌≤◌, length};
 ghost use Rattle.sums.specs.Search.{first};
 ghost use Rattle.spline.specs.Box.{places};

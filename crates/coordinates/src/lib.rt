@@ -1,5 +1,7 @@
 // A coordinate on an axis: read from the origin of its axis, and cell and remainder of its distance from
 // there. Section 9.1.
+#![tactic(auto)]
+
 ghost use Rattle.std.specs.Prelude.{◌≡◌, ◌-◌, ◌≤◌, nat_abs};
 ghost use Rattle.coordinates.specs.Coordinates.{farthest, from_origin, located, sign_check};
 
@@ -39,7 +41,7 @@ pub fn last_cell(size: u16) -> u32
 }
 
 // Cell and remainder of a coordinate.
-#[derive(Drop)]
+#[derive(Clone, Copy)]
 pub struct Located {
     pub cell: u32,
     pub remainder: u32,

@@ -1,4 +1,6 @@
 // The order that defines a net, as bytes: 1s, 3s, 2s, 4s. docs/SPECIFICATION.md, Section 3.7.
+#![tactic(auto)]
+
 ghost use Rattle.std.specs.Prelude.{◌≡◌, ◌-◌, ◌≤◌};
 ghost use Rattle.sums.specs.Fill.{tabulate};
 ghost use Rattle.shape.specs.Shape.{counted};

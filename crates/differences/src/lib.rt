@@ -1,5 +1,7 @@
 // The first half of a repeat, shift and subtract: at every place of the new box, the right side of the step
 // rule at the place one step of the direction before it. docs/SPECIFICATION.md, Section 6.3.
+#![tactic(auto)]
+
 ghost use Rattle.std.specs.Prelude.{◌≡◌, ℕ, ◌+◌, ◌≤◌, length};
 ghost use Rattle.sums.specs.Fill.{filled};
 ghost use Rattle.spline.specs.Build.{direction};

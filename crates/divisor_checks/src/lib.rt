@@ -1,4 +1,6 @@
 // The checks of a divisor: 10, 11 and 15. Section 5.3.
+#![tactic(auto)]
+
 ghost use Rattle.std.specs.Prelude.{◌||◌, ◌≡◌, ◌≤◌, eqb, leb, ltb};
 ghost use Rattle.checks.specs.Checks.{refuse_if};
 ghost use Rattle.checks.specs.declared.Checked.TheVariants.{Passed};

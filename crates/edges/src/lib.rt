@@ -1,5 +1,7 @@
 // Lines of a direction in a box, from the box's edge: sums along them, and which places of a row are on the
 // edge. docs/SPECIFICATION.md, Section 6.3.
+#![tactic(auto)]
+
 ghost use Rattle.std.specs.Prelude.{◌≡◌};
 ghost use Rattle.edges.specs.EdgeWidth.{edge_width};
 

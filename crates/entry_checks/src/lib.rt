@@ -1,4 +1,6 @@
 // What the two numbers of one entry may be: checks 8 and 16. docs/SPECIFICATION.md, Section 8.3.
+#![tactic(auto)]
+
 ghost use Rattle.std.specs.Prelude.{◌≡◌};
 ghost use Rattle.entry_checks.specs.Entry.{fault_of, forbidden, gap_at, limit_at};
 

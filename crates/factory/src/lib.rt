@@ -1,5 +1,7 @@
 // The net of 2, 2, 2, 1, with which nearly all units leave the factory, as a table that is copied to a lent
 // slice. docs/SPECIFICATION.md, Section 6.5.
+#![tactic(auto)]
+
 ghost use Rattle.std.specs.Prelude.{◌≡◌, ◌≤◌, length};
 ghost use Rattle.sums.specs.Fill.{filled};
 ghost use Rattle.spline.specs.Box.{defined_number};

@@ -1,5 +1,7 @@
 // The loading of a field file into two lent slices and a unit. The whole file is checked before the
 // first write. docs/SPECIFICATION.md, Section 8, has the layout and the checks.
+#![tactic(auto)]
+
 ghost use Rattle.std.specs.Prelude.{◌≡◌};
 ghost use Rattle.field.specs.Load.{load_answer, load_checks, load_corrections, load_uncertainties};
 

@@ -1,5 +1,7 @@
 // The layout of a field file: the sizes and the origin that it starts with, and the numbers of its entries.
 // Any bytes may stand in it; one past its end reads as 0. docs/SPECIFICATION.md, Section 8.2.
+#![tactic(auto)]
+
 ghost use Rattle.std.specs.Prelude.{◌≡◌};
 ghost use Rattle.file.specs.File.{correction, entry, entry_count, origin1, origin2, origin3, signed};
 ghost use Rattle.file.specs.File.{size1, size2, size3, uncertainties_start, word};
@@ -7,14 +9,14 @@ ghost use Rattle.file.specs.File.{size1, size2, size3, uncertainties_start, word
 // The bytes before the two arrays.
 pub const HEADER: usize = 12;
 
-#[derive(Drop)]
+#[derive(Clone, Copy)]
 pub struct Sizes {
     pub n1: u16,
     pub n2: u16,
     pub n3: u16,
 }
 
-#[derive(Drop)]
+#[derive(Clone, Copy)]
 pub struct Origin {
     pub o1: i16,
     pub o2: i16,

@@ -1,5 +1,7 @@
 // The checks of a field file, in this order: 5, 6, 7 on its layout, 8 and 16 each on all entries.
 // docs/SPECIFICATION.md, Sections 5.3, 8.3.
+#![tactic(auto)]
+
 ghost use Rattle.std.specs.Prelude.{◌≡◌, ◌<◌, ℕ};
 ghost use Rattle.checks.specs.Checks.{and_then};
 ghost use Rattle.file.specs.File.{correction, entry_count, uncertainty};

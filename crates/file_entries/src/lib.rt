@@ -1,4 +1,6 @@
 // The entries of a field file, written to lent slices. docs/SPECIFICATION.md, Sections 8.2, 8.4.
+#![tactic(auto)]
+
 ghost use Rattle.std.specs.Prelude.{◌≡◌, length};
 ghost use Rattle.file.specs.File.{correction, entry, uncertainties_start};
 ghost use Rattle.file_entries.specs.Written.{entries_fit, written};

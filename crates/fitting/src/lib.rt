@@ -1,5 +1,7 @@
 // Whether what is lent to the halves of a repeat fits: boxes within the limits, and slices that hold them.
 // docs/SPECIFICATION.md, Section 6.3.
+#![tactic(auto)]
+
 ghost use Rattle.std.specs.Prelude.{◌≡◌};
 ghost use Rattle.fitting.specs.Fitting.{differences_fit, sums_fit};
 

@@ -1,5 +1,7 @@
 // The answers of the C interface that carry no unit: flat structs in the place of enums.
 // docs/SPECIFICATION.md, Section 12.
+#![tactic(auto)]
+
 ghost use Rattle.std.specs.Prelude.{◌≡◌};
 ghost use Rattle.flat.specs.Flat.{flat_live, flat_placing, flat_point, switched_on};
 
@@ -9,7 +11,7 @@ use placing::PlacingAnswer;
 
 // What a placing call answers: 0, 0 and the placing; or the number and the place of a refusal and zeros.
 #[repr(C)]
-#[derive(Drop)]
+#[derive(Clone, Copy)]
 pub struct FlatPlacingAnswer {
     pub number: u32,
     pub place: usize,
@@ -19,7 +21,7 @@ pub struct FlatPlacingAnswer {
 // What a point call or a valuing call answers: 0, 0 and the fraction; or the number and the place of a
 // refusal and zeros.
 #[repr(C)]
-#[derive(Drop)]
+#[derive(Clone, Copy)]
 pub struct FlatPointAnswer {
     pub number: u32,
     pub place: usize,
@@ -31,7 +33,7 @@ pub struct FlatPointAnswer {
 // What a live call or a live valuing call answers: 0, 0, N and U, U being +0 where it is switched off; or the
 // number and the place of a refusal and +0 for both.
 #[repr(C)]
-#[derive(Drop)]
+#[derive(Clone, Copy)]
 pub struct FlatLiveAnswer {
     pub number: u32,
     pub place: usize,

@@ -1,5 +1,7 @@
 // The unit record of the C interface, a flat struct with bytes as flags, and the answers that carry one. Any
 // bytes may stand in a record. docs/SPECIFICATION.md, Section 12.
+#![tactic(auto)]
+
 ghost use Rattle.std.specs.Prelude.{◌≡◌};
 ghost use Rattle.flat_unit.specs.Record.{empty_flat, flat_block, flat_net, unit_of};
 
@@ -7,7 +9,7 @@ use unit::{Unit, UnitAnswer};
 
 // The unit record with bytes as flags. 1 says present; every other byte counts as absent.
 #[repr(C)]
-#[derive(Drop)]
+#[derive(Clone, Copy)]
 pub struct FlatUnit {
     pub has_net: u8,
     pub v1: u8,
@@ -26,7 +28,7 @@ pub struct FlatUnit {
 // What a call that changes the unit answers: 0, 0 and the changed record; or the number and the place of
 // a refusal and the record as it was handed in.
 #[repr(C)]
-#[derive(Drop)]
+#[derive(Clone, Copy)]
 pub struct FlatUnitAnswer {
     pub number: u32,
     pub place: usize,

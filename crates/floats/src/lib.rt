@@ -1,5 +1,7 @@
 // Whole numbers as 64-bit floats: the powers of a weight, and the laws that sums and products within 2^53 are
 // exact.
+#![tactic(auto)]
+
 ghost use Rattle.std.specs.Prelude.{◌≡◌};
 ghost use Rattle.floats.specs.Powers.{float_powers};
 

@@ -1,5 +1,7 @@
 // What a unit and a placing fix for a blending: degree, extents, widths, sizes and steps, whatever both are.
 // docs/SPECIFICATION.md, Section 10.2.
+#![tactic(auto)]
+
 ghost use Rattle.std.specs.Prelude.{◌≡◌, ◌+◌, ◌-◌, ◌≤◌};
 ghost use Rattle.frame.specs.Frames.{frame_of, step_on};
 
@@ -11,7 +13,7 @@ use unit::Unit;
 // What a blending goes by beside the lent slices: the degree, its number of local places and that of groups
 // of four that hold them, extents, widths of the net's box, sizes of the block, the window's lowest entry,
 // and the net's steps along the axes p, r, s.
-#[derive(Drop)]
+#[derive(Clone, Copy)]
 pub struct Frame {
     pub m: usize,
     pub count: usize,

@@ -1,5 +1,7 @@
 // What a call that places and values in turn looks at beside these two: what a point that is not placed is
 // refused by, and 15 before the blending.
+#![tactic(auto)]
+
 ghost use Rattle.std.specs.Prelude.{◌≡◌};
 ghost use Rattle.in_turn.specs.Early.{early_checks};
 ghost use Rattle.in_turn.specs.Unplaced.{unplaced_live, unplaced_point};

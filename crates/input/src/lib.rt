@@ -1,5 +1,7 @@
 // What is typed into program `shares` (docs/SPECIFICATION.md, Sections 13.1 and 13.3): the bytes as they are
 // read, one by one until no more can matter, and the order that they stand for.
+#![tactic(auto)]
+
 ghost use Rattle.std.specs.Prelude.{[], ◌≡◌, ◌≤◌, min, ℕ, get_or, length};
 ghost use Rattle.sums.specs.Fill.{filled};
 ghost use Rattle.input.specs.Order.{digit_number, order_length};
@@ -9,7 +11,7 @@ ghost use Rattle.input.specs.Reading.{held, wants_more, with_byte};
 const DECISIVE: usize = 10;
 
 // The typed bytes that have been read so far, one by one: the first `count` of `bytes`.
-#[derive(Drop)]
+#[derive(Clone, Copy)]
 pub struct Typed {
     pub bytes: [u8; DECISIVE],
     count: usize,

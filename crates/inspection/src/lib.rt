@@ -1,5 +1,7 @@
 // Inspecting a net that arrived from elsewhere: it is compared with the defined one, built beside it.
 // docs/SPECIFICATION.md, Section 7.
+#![tactic(auto)]
+
 ghost use Rattle.std.specs.Prelude.{◌≡◌, ◌≤◌, length};
 ghost use Rattle.sums.specs.Fill.{filled};
 ghost use Rattle.spline.specs.Multiplicities.{multiplicities};

@@ -1,4 +1,6 @@
 // Checks 3 and 4 of an inspection, which come before anything is written. docs/SPECIFICATION.md, Section 7.
+#![tactic(auto)]
+
 ghost use Rattle.std.specs.Prelude.{not, ◌≡◌};
 ghost use Rattle.spline.specs.Box.{places, width};
 ghost use Rattle.spline.specs.Multiplicities.{allowed};

@@ -1,4 +1,6 @@
 // The checks that several calls share: of a unit, and of the slices that are lent with it. Section 5.3.
+#![tactic(auto)]
+
 ghost use Rattle.std.specs.Prelude.{◌≡◌};
 ghost use Rattle.limits.specs.Limits.{block_room_check, lent_checks, room_checks, unit_checks};
 

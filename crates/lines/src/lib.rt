@@ -1,4 +1,6 @@
 // The lines that program `shares` prints (docs/SPECIFICATION.md, Section 13.2), as text in a lent slice.
+#![tactic(auto)]
+
 ghost use Rattle.std.specs.Prelude.{◌≤◌, length};
 ghost use Rattle.text.specs.Put.{Put};
 ghost use Rattle.lines.specs.Lines.{header_text, place_text, refused_text};

@@ -1,5 +1,7 @@
 // What program `shares` prints (docs/SPECIFICATION.md, Section 13), as text in a lent slice: the lines of the
 // net that a typed order builds, or the line of its refusal.
+#![tactic(auto)]
+
 ghost use Rattle.std.specs.Prelude.{◌≡◌, ◌++◌, ◌≤◌, ℕ, drop, get_or, length, take};
 ghost use Rattle.text.specs.Put.{Put};
 ghost use Rattle.unit.specs.Unit.{net_of};

@@ -1,6 +1,8 @@
 // The live answer at a rational point or at a placing: N and U as 64-bit floats, or the refusal that applies.
 // Blending is in whole numbers, as for the exact answer; the Bernstein sums are made in floats, each step
 // exact. Sections 11.7, 11.8 and 11.12.
+#![tactic(auto)]
+
 ghost use Rattle.std.specs.Prelude.{◌≡◌, ◌≤◌};
 ghost use Rattle.sums.specs.Fill.{number_at, signed_at};
 ghost use Rattle.spline.specs.Multiplicities.{degree};

@@ -1,5 +1,7 @@
 // Building the net of an order in a lent slice, by differences and sums along lines. docs/SPECIFICATION.md,
 // Section 6.
+#![tactic(auto)]
+
 ghost use Rattle.std.specs.Prelude.{◌≡◌, length};
 ghost use Rattle.builds.specs.Build.{build_answer, build_net, BuildWork};
 

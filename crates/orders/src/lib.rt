@@ -1,4 +1,6 @@
 // Orders: their checks, and the multiplicities that they lead to. docs/SPECIFICATION.md, Sections 3.6, 6.1.
+#![tactic(auto)]
+
 ghost use Rattle.std.specs.Prelude.{cond, ◌≡◌, length, get_or};
 ghost use Rattle.sums.specs.Search.{first};
 ghost use Rattle.spline.specs.Build.{direction};

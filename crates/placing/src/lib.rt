@@ -1,5 +1,7 @@
 // Where a point lies: its cell, the ranks of the axes and the four weights; or the refusal that it meets.
 // Section 9.
+#![tactic(auto)]
+
 ghost use Rattle.std.specs.Prelude.{◌≡◌};
 ghost use Rattle.checks.specs.Checks.{passed_or};
 ghost use Rattle.unit.specs.Unit.{net_of, sizes};
@@ -13,7 +15,7 @@ use checks::{Checked, Refusal};
 use unit::Unit;
 
 // What a placing call answers.
-#[derive(Drop)]
+#[derive(Clone, Copy)]
 pub enum PlacingAnswer {
     Placed(Placing),
     Refused(Refusal),

@@ -1,4 +1,6 @@
 // Ties and far faces of a placing that is handed in, by its fields. Section 9.7.
+#![tactic(auto)]
+
 ghost use Rattle.std.specs.Prelude.{◌≡◌};
 ghost use Rattle.placing_fields.specs.Fields.{face_in_last, faces_in_last, remainder_on, tie_in_order};
 ghost use Rattle.placing_fields.specs.Fields.{ties_in_order};

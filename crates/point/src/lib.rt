@@ -1,5 +1,7 @@
 // The exact answer at a rational point or at a placing: the Bernstein sums of its blended numbers, or the
 // refusal that applies. Section 11.
+#![tactic(auto)]
+
 ghost use Rattle.std.specs.Prelude.{◌≡◌};
 ghost use Rattle.sums.specs.Fill.{number_at, signed_at};
 ghost use Rattle.spline.specs.Multiplicities.{degree};

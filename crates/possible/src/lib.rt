@@ -1,5 +1,7 @@
 // Which placings the placing call gives for a unit, and the checks of a call that is handed a placing.
 // Section 9.7.
+#![tactic(auto)]
+
 ghost use Rattle.std.specs.Prelude.{◌≡◌};
 ghost use Rattle.possible.specs.Possible.{live_placing_checks, placed_checks, placing_checks, possible};
 

@@ -1,5 +1,7 @@
 // What multiplicities fix: the degree of a net and the box that it fills, for any four of them. What sizes
 // fix: the number of a block's entries. What directions are: their vectors. docs/SPECIFICATION.md, Section 2.
+#![tactic(auto)]
+
 ghost use Rattle.std.specs.Prelude.{◌≡◌, ◌+◌, ◌*◌, ◌≤◌};
 ghost use Rattle.spline.specs.Multiplicities.{degree};
 ghost use Rattle.spline.specs.Box.{places, width};
@@ -11,7 +13,7 @@ ghost use Rattle.shape.specs.Direction.{vector_of};
 use unit::Unit;
 
 // Four multiplicities.
-#[derive(Drop)]
+#[derive(Clone, Copy)]
 pub struct Counts {
     pub v1: u8,
     pub v2: u8,
@@ -20,7 +22,7 @@ pub struct Counts {
 }
 
 // A net's degree, and the widths of its box.
-#[derive(Drop)]
+#[derive(Clone, Copy)]
 pub struct Shape {
     pub m: usize,
     pub w1: usize,
@@ -29,7 +31,7 @@ pub struct Shape {
 }
 
 // The vector of a direction.
-#[derive(Drop)]
+#[derive(Clone, Copy)]
 pub struct Vector {
     pub x: usize,
     pub y: usize,

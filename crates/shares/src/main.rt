@@ -1,48 +1,39 @@
 // Program `shares`: lists the net that the order on standard input builds. docs/SPECIFICATION.md, Section 13.
+#![tactic(auto)]
+
 use input::Typed;
-use libc::{STDIN_FILENO, STDOUT_FILENO};
+use std::io;
+use std::io::{Input, Read, Write};
 
 // The next byte of standard input.
-#[derive(Drop)]
-enum Input {
+enum Next {
     Byte(u8),
     End,
-    Failed,
 }
 
-fn read_byte() -> Input {
+fn read_byte(reader: &mut impl Read) -> io::Result<Next> {
     let mut byte = [0u8; 1];
-    let got = libc::read(STDIN_FILENO, &mut byte);
-    if got < 0 {
-        return Input::Failed;
+    if reader.read(&mut byte)? == 0 {
+        return Ok(Next::End);
     }
-    if got == 0 {
-        return Input::End;
-    }
-    Input::Byte(byte[0])
+    Ok(Next::Byte(byte[0]))
 }
 
-fn list(typed: Typed) {
+fn list(out: &mut impl Write, typed: Typed) -> io::Result<()> {
     let mut text = [0u8; listing::ROOM];
     let n = listing::print_typed(typed, &mut text);
-    if !io::write_all(STDOUT_FILENO, &text[..n]) {
-        os::fail(b"standard output");
-    }
+    out.write_all(&text[..n])
 }
 
 // Reads on until the input ends or no further byte could change what is printed.
-fn main() {
+fn main(rt: HostRuntime) -> io::Result<()> {
     let mut typed = Typed::nothing();
+    let mut reader = rt.reader();
     while typed.wants_more() {
-        let input = read_byte();
-        match input {
-            Input::Byte(b) => typed = typed.with_byte(b),
-            Input::End => break,
-            Input::Failed => {
-                os::fail(b"standard input");
-                return;
-            }
+        match read_byte(&mut reader)? {
+            Next::Byte(b) => typed = typed.with_byte(b),
+            Next::End => break,
         }
     }
-    list(typed);
+    list(&mut io::writer(&rt), typed)
 }

@@ -77,6 +77,7 @@ module _ (W : Axis → ℕ) (s : List ℕ) where
     where
       below : (w : ℕ) (z : ℤ) (f : ℕ → ℕ) → Below 0 z → in_box w z f ≡ 0
       below w (negsuc n) f h = refl
+      below w (pos _) f h = elim h [ ]
 
       go : (q : Place) (b : Axis) → Below 0 (q b) → spread W s q ≡ 0
       go q a1 h = below (W a1) (q a1) _ h
@@ -90,6 +91,7 @@ module _ (W : Axis → ℕ) (s : List ℕ) where
     where
       above : (w : ℕ) (z : ℤ) (f : ℕ → ℕ) → High w z → in_box w z f ≡ 0
       above w (pos n) f h = by-ltb (λ (x : ℕ). x ≡ 0) n w (f n) 0 (λ k. absurd (omega arith)) (λ k. refl)
+      above w (negsuc _) f h = elim h [ ]
 
       go : (q : Place) (b : Axis) → High (W b) (q b) → spread W s q ≡ 0
       go q a1 h = above (W a1) (q a1) _ h

@@ -43,12 +43,14 @@ far-vanishes N C v = record { far = λ q b k. v.zero_far q b (out (q b) k) }
   where
     out : (z : ℤ) → Below N z → Far N z
     out (negsuc n) k = k
+    out (pos _) k = elim k [ ]
 
 low-vanishes : (N : ℕ) (C : Net) → ZeroLow C → Vanishes N C
 low-vanishes N C v = record { far = λ q b k. v.zero_low q b (low (q b) k) }
   where
     low : (z : ℤ) → Below N z → Low z
     low (negsuc n) k = tt
+    low (pos _) k = elim k [ ]
 
 -- the one net that obeys the rule and is 0 far below
 pub only : (d : Direction) (g : ℕ) (G C : Net) (N : ℕ) → ZeroLow G → Obeys d g G C → Vanishes N C

@@ -37,6 +37,12 @@ pub same_axis-eq : (a b : Axis) → T (same_axis a b) → a ≡ b
 same_axis-eq a1 a1 t = refl
 same_axis-eq a2 a2 t = refl
 same_axis-eq a3 a3 t = refl
+same_axis-eq a1 a2 t = elim t [ ]
+same_axis-eq a1 a3 t = elim t [ ]
+same_axis-eq a2 a1 t = elim t [ ]
+same_axis-eq a2 a3 t = elim t [ ]
+same_axis-eq a3 a1 t = elim t [ ]
+same_axis-eq a3 a2 t = elim t [ ]
 
 same_axis-sym : (a b : Axis) → same_axis a b ≡ same_axis b a
 same_axis-sym a1 a1 = refl

@@ -43,6 +43,7 @@ past-high : (z : ℤ) → High 2 z → past_one z ≡ 1
 past-high (pos zero) l = omega arith
 past-high (pos (suc zero)) l = omega arith
 past-high (pos (suc (suc n))) l = refl
+past-high (negsuc _) l = elim l [ ]
 
 line-one : (z : ℤ) (n : ℕ) → Low z → High 2 (z +ℤ pos (1 * n))
     → sum_to n (λ i. is_one (z +ℤ pos (1 * i))) ≡ 1

@@ -27,6 +27,7 @@ amount false n = 0
 -- what is at least N is at least every smaller number
 pub high-mono : (N N' : ℕ) (z : ℤ) → N' ≤ N → High N z → High N' z
 high-mono N N' (pos n) l h = omega arith
+high-mono N N' (negsuc _) l h = elim h [ ]
 
 -- a step back takes one from the bound, where the direction moves
 pub high_down : (h : Bool) (N n : ℕ) (z : ℤ) → High (N + amount h (suc n)) z
@@ -34,6 +35,7 @@ pub high_down : (h : Bool) (N n : ℕ) (z : ℤ) → High (N + amount h (suc n))
 high_down true N n (pos zero) l = omega arith
 high_down true N n (pos (suc k)) l = omega arith
 high_down false N n z l = l
+high_down true N n (negsuc _) l = elim l [ ]
 
 -- past e cells of degree g + 1, the lowered coordinate is past e cells of degree g
 pub high-compose : (g e : ℕ) (z : ℤ) (w : ℕ) → High (suc g * e) z
@@ -41,6 +43,7 @@ pub high-compose : (g e : ℕ) (z : ℤ) (w : ℕ) → High (suc g * e) z
 high-compose g e (pos n) w l =
     let k : e ≤ n / suc g = (le-div_iff_mul-le (zero-lt-suc g)).1 (omega arith) in
     omega (arith, mul-le-mul_left g k)
+high-compose g e (negsuc _) w l = elim l [ ]
 
 -- and so is the lowered place
 pub lowered-high : (d : Direction) (g e : ℕ) (q : Place) (b : Axis) → High (suc g * e) (q b)
@@ -101,6 +104,7 @@ is_one-high : (z : ℤ) → High 2 z → is_one z ≡ 0
 is_one-high (pos zero) l = refl
 is_one-high (pos (suc zero)) l = omega arith
 is_one-high (pos (suc (suc n))) l = refl
+is_one-high (negsuc _) l = elim l [ ]
 
 -- the simple net is 0 from 2 on
 pub simple-high : ZeroHigh 1 (λ b. 2) simple

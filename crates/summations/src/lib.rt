@@ -1,5 +1,7 @@
 // The second half of a repeat, integration: the differences are summed along each line of the direction, from
 // the box's edge, into the net slice. docs/SPECIFICATION.md, Section 6.3.
+#![tactic(auto)]
+
 ghost use Rattle.std.specs.Prelude.{◌≡◌, ◌≤◌, length};
 ghost use Rattle.sums.specs.Fill.{filled};
 ghost use Rattle.spline.specs.Build.{direction};

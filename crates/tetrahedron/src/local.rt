@@ -3,7 +3,7 @@ ghost use Rattle.std.specs.Prelude.{◌≡◌};
 ghost use Rattle.tetrahedron.specs.LocalPlaces.{local_after, local_at, local_places};
 
 // How far a local place lies along the axes p, r and s, along each no farther than along the one before.
-#[derive(Drop)]
+#[derive(Clone, Copy)]
 pub struct LocalPlace {
     pub p: usize,
     pub r: usize,

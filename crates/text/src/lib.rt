@@ -1,5 +1,7 @@
 // Numbers and words as text in a lent slice, for the programs that print. Each function puts bytes from a
 // place on and answers where the text goes on. Bytes past the slice's end are left out.
+#![tactic(auto)]
+
 ghost use Rattle.std.specs.Prelude.{[], ◌∷◌};
 ghost use Rattle.text.specs.Put.{Put};
 ghost use Rattle.text.specs.Text.{decimal, item, triple};

@@ -1,4 +1,6 @@
 // Whether three numbers are the three axes in some order. Section 9.7.
+#![tactic(auto)]
+
 ghost use Rattle.std.specs.Prelude.{◌≡◌};
 ghost use Rattle.three_axes.specs.Axes.{are_axes, is_axis};
 

@@ -1,5 +1,7 @@
 // The unit record: which net and which block a correction unit holds, and the answers that carry a unit. Any
 // values may stand in it. docs/SPECIFICATION.md, Section 4.
+#![tactic(auto)]
+
 ghost use Rattle.std.specs.Prelude.{◌≡◌};
 ghost use Rattle.spline.specs.Multiplicities.{multiplicities};
 ghost use Rattle.unit.specs.Gaps.{is_gap};
@@ -7,7 +9,7 @@ ghost use Rattle.unit.specs.Unit.{empty_unit, holds_block, holds_net, with_block
 
 use checks::Refusal;
 
-#[derive(Drop)]
+#[derive(Clone, Copy)]
 pub struct Unit {
     pub has_net: bool,
     pub v1: u8,
@@ -24,7 +26,7 @@ pub struct Unit {
 }
 
 // What a call that changes the unit answers.
-#[derive(Drop)]
+#[derive(Clone, Copy)]
 pub enum UnitAnswer {
     Changed(Unit),
     Refused(Refusal),

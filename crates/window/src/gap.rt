@@ -7,7 +7,7 @@ ghost use Rattle.window.specs.Window.{found_of};
 use checks::Checked;
 
 // Whether there is a gap, and its index.
-#[derive(Drop)]
+#[derive(Clone, Copy)]
 pub enum Gap {
     At(usize),
     Nowhere,

@@ -3,7 +3,7 @@ ghost use Rattle.std.specs.Prelude.{◌≡◌, ◌-◌};
 ghost use Rattle.window.specs.Positions.{position, position_after};
 
 // Counted from the window's lowest entry.
-#[derive(Drop)]
+#[derive(Clone, Copy)]
 pub struct Position {
     pub x: usize,
     pub y: usize,

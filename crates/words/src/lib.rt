@@ -1,5 +1,7 @@
 // Sums and differences in 32 bits. Net numbers are small, so theirs are never cut; a lent slice may hold any.
 // docs/SPECIFICATION.md, Section 6.3.
+#![tactic(auto)]
+
 ghost use Rattle.std.specs.Prelude.{◌≡◌, ◌<◌, pos, ◌+ℤ◌, ◌-ℤ◌};
 ghost use Rattle.sums.specs.Word.{word, signed_word};
 
