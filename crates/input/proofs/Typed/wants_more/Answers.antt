@@ -2,13 +2,9 @@
 use mathlib.Core.Path.{sym}
 use borrow.Author.Rules.{length_unmapped}
 use Rattle.input.proofs.Reading.{taken-wants}
-use Rattle.input.proofs.Typed.wants_more.Statement.{statement}
-use Rattle.input.proofs.Typed.wants_more.Tie as tie
+use Rattle.input.proofs.Typed.wants_more.Goals as goal
 
-returns : tie.Need-returns
+pub returns : goal.returns
 returns c =
-    let t = c.before.args.self in
+    let t = c.args.self in
     sym (taken-wants t.bytes (search length_unmapped) t.count)
-
-pub wants-more-spec : {M : Type 1} → statement M
-wants-more-spec = tie.close (tie.spec returns)

@@ -3,17 +3,10 @@ use mathlib.Core.Path.{◌∙◌, ◌≡◌, ap, sym}
 use Prim.Native.Nat.{min}
 use borrow.Author.Rules.{length_unmapped, rules}
 use lib.ListN.{length, length-take}
-use Rattle.input.proofs.Typed.len.Statement.{statement}
-use Rattle.input.proofs.Typed.len.Tie as tie
+use Rattle.input.proofs.Typed.len.Goals as goal
 
-least-requires : tie.Need-least-requires
-least-requires c κs = search rules
-
-returns : tie.Need-returns
+pub returns : goal.returns
 returns c =
-    let t = c.before.args.self in
+    let t = c.args.self in
     let ten : length t.bytes ≡ 10 = search length_unmapped in
     c.least.ensures.0 ∙ sym (length-take t.count t.bytes ∙ ap (min t.count) ten)
-
-pub len_spec : {M : Type 1} → statement M
-len_spec = tie.close (tie.spec least-requires returns)

@@ -1,0 +1,6 @@
+-- Checks that have stopped stay stopped.
+use borrow.Author.Rules.{rules}
+use Rattle.checks.proofs.Checked.and_then.Goals as goal
+
+pub returns-in-Stopped : goal.returns-in-Stopped
+returns-in-Stopped c = simp c.in-Stopped.is
