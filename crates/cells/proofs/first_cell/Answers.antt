@@ -6,9 +6,8 @@ use native.Mathlib.Omega.{arith}
 use borrow.Author.Tests.{le-ltb, lt-ltb}
 use lib.Dec.{ltb}
 use Rattle.cells.proofs.RunningCells.{cell_at, first_cell}
-use Rattle.cells.proofs.first_cell.Statement.{statement}
 use Rattle.cells.specs.Coordinates.{cell_of}
-use Rattle.cells.proofs.first_cell.Tie as tie
+use Rattle.cells.proofs.first_cell.Goals as goal
 
 moving : (g step : ℕ) → 0 < step → cell_at 0 g ≡ cell_of g (cond (ltb 0 step) g 0)
 moving g step l = rw (lt-ltb 0 step l) (sym (first_cell g g (omega arith)))
@@ -16,11 +15,8 @@ moving g step l = rw (lt-ltb 0 step l) (sym (first_cell g g (omega arith)))
 still : (g step : ℕ) → step ≤ 0 → cell_at 0 0 ≡ cell_of g (cond (ltb 0 step) g 0)
 still g step l = rw (le-ltb 0 step l) (sym (first_cell g 0 (omega arith)))
 
-returns : tie.Need-returns
-returns c = moving c.before.args.g c.before.args.step (omega arith)
+pub returns-then-step-gt0 : goal.returns-then-step-gt0
+returns-then-step-gt0 c = moving c.args.g c.args.step (omega arith)
 
-returns-2 : tie.Need-returns-2
-returns-2 c = still c.before.args.g c.before.args.step (omega arith)
-
-pub first-cell-spec : {M : Type 1} → statement M
-first-cell-spec = tie.close (tie.spec returns returns-2)
+pub returns-else-step-gt0 : goal.returns-else-step-gt0
+returns-else-step-gt0 c = still c.args.g c.args.step (omega arith)

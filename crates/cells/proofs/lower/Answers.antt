@@ -1,0 +1,13 @@
+-- The test is that of the definition.
+use mathlib.Core.Path.{sym}
+use native.Mathlib.Omega.{arith}
+use borrow.Author.Rules.{rules}
+use borrow.Author.Tests.{ltb-false, ltb-true}
+use Rattle.spline.proofs.Lowering.{above-lowers, below_stays}
+use Rattle.cells.proofs.lower.Goals as goal
+
+pub returns-then-p-u : goal.returns-then-p-u
+returns-then-p-u c = sym (above-lowers _ _ (omega (arith, ltb-true)))
+
+pub returns : goal.returns
+returns c = sym (below_stays _ _ (omega (arith, ltb-false)))

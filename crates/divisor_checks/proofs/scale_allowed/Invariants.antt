@@ -1,0 +1,15 @@
+-- After i turns the product is i!×D^i and not too large.
+use mathlib.Core.Path.{◌≡◌, refl, sym}
+use Prim.Native.Nat.{◌*◌, ◌+◌, ◌-◌, ◌≤◌, ℕ}
+use native.Mathlib.Nat.{mul-le-mul, mul-le-mul_left}
+use native.Mathlib.Omega.{arith}
+use borrow.Author.Tests.{le-leb, lt-leb}
+use Rattle.divisor_checks.proofs.Scale.{scale-le, scale-next, scale-zero}
+use Rattle.divisor_checks.specs.Divisor.{limit, scale}
+use Rattle.divisor_checks.proofs.scale_allowed.Given as goal
+
+abbrev pub invariant-loop-i : goal.invariant-loop-i
+invariant-loop-i l = (l.i ≤ l.m) × (l.product ≡ scale l.i l.divisor) × (l.product ≤ l.most)
+
+abbrev pub decreases-loop-i : goal.decreases-loop-i
+decreases-loop-i l = l.m - l.i
