@@ -58,12 +58,15 @@ module _ (W : Axis → ℕ) where
   pub end-left : (y z : ℤ) → Below 0 y → row_end W y z ≡ 0
   unfolding row_end
   end-left (negsuc y) z h = refl
+  end-left (pos _) z h = elim h [ ]
 
   -- and where z is negative
   pub end_below : (y z : ℤ) → Below 0 z → row_end W y z ≡ 0
   unfolding row_end
   end_below (negsuc y) (negsuc z) h = refl
   end_below (pos y) (negsuc z) h = by-ltb (λ (n : ℕ). n ≡ 0) y (W a2) _ 0 (λ l. refl) (λ l. refl)
+  end_below (pos y) (pos _) h = elim h [ ]
+  end_below (negsuc y) (pos _) h = elim h [ ]
 
   -- every row is in the box or outside it
   view : (y z : ℤ) (e : ℕ) → e ≡ row_end W y z → Outside y z e ⊎ Inside y z e
