@@ -6,9 +6,9 @@ use std::{env, fs};
 
 fn main() {
     let bench = env::var("CARGO_MANIFEST_DIR").expect("cargo sets it");
-    println!("cargo::rustc-link-search=native={bench}/../target/staticlib");
+    println!("cargo::rustc-link-search=native={bench}/../crates/c_api/out");
     println!("cargo::rustc-link-lib=static=c_api");
-    println!("cargo::rerun-if-changed={bench}/../target/staticlib/libc_api.a");
+    println!("cargo::rerun-if-changed={bench}/../crates/c_api/out/libc_api.a");
     let table = format!("{}/factory.rs", env::var("OUT_DIR").expect("cargo sets it"));
     fs::write(table, format!("{:?}\n", Net::of(factory_shape()).numbers)).expect("the table is written");
 }

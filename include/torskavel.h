@@ -1,6 +1,6 @@
 /*
- * Torskavel for C99, C++11 and later: the calls of the archive that `rt staticlib c_api` writes,
- * target/staticlib/libc_api.a. Beside this file stand torskavel_layout.h, with the records, and torskavel_limits.h.
+ * Torskavel for C99, C++11 and later: the calls of the archive that `rt lib --cpu x86-64` in crates/c_api writes,
+ * crates/c_api/out/libc_api.a. Beside this file stand torskavel_layout.h, with the records, and torskavel_limits.h.
  *
  * A call answers or refuses by number, whatever numbers, bytes, counts, unit record and placing it is handed; a refused
  * call leaves the record and every slice as they were, but for the two work slices of an inspection.

@@ -1,7 +1,7 @@
-//! Torskavel for Rust: the calls of the archive that `rt staticlib c_api` writes, target/staticlib/libc_api.a. What each
-//! does, and what the archive needs, stands in torskavel.h. The functions are safe: every Rust slice keeps what a C caller
-//! owes, and Rust rounds to nearest. Beside this file stand torskavel_calls.rs, torskavel_layout.rs and
-//! torskavel_limits.rs.
+//! Torskavel for Rust: the calls of the archive that `rt lib --cpu x86-64` in crates/c_api writes,
+//! crates/c_api/out/libc_api.a. What each does, and what the archive needs, stands in torskavel.h. The functions are safe:
+//! every Rust slice keeps what a C caller owes, and Rust rounds to nearest. Beside this file stand torskavel_calls.rs,
+//! torskavel_layout.rs and torskavel_limits.rs.
 //!
 //! For users of 0.6.0: coordinates are `i32` now, and a literal of `Unit` wants `o1`, `o2` and `o3`, zeros for the block
 //! that you had. torskavel.h has the rest.

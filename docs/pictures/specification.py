@@ -7,7 +7,7 @@ evaluator answers them.
                                                       example is the evaluator's (example.py), and whether
                                                       README.md quotes what is printed
 
-Run after `rt check shares`, and `cargo build --release --offline` in evaluator/.
+Run after `rt run </dev/null` in crates/shares, and `cargo build --release --offline` in evaluator/.
 """
 import itertools
 import subprocess
@@ -17,7 +17,7 @@ from pathlib import Path
 from example import CORRECTIONS, DIVISOR, GAP, POINT, ROOT, SHAPE, SIZES, answered, not_said, written
 
 HERE = Path(__file__).resolve().parent
-SHARES = ROOT / "target/bin/shares"
+SHARES = ROOT / "crates/shares/out/shares"
 
 INK, RULE, FRAME, PLAIN, MARKED = "#1a1a1a", "#1f5fa8", "#8a8a8a", "#ffffff", "#ffd27f"
 

@@ -2,12 +2,13 @@
 """Writes the factory's table, the numbers of the net 2, 2, 2, 1, with the evaluator: a line for each row, for
 the code and for the proofs.
 
-Run in the repository, after `cargo build --release --offline` in evaluator/, and again after `rt fmt`, which
-gives each number of the code a line of its own:
+Run in the repository, after `cargo build --release --offline` in evaluator/:
 
-    python3 tests/expect/factory.py            writes crates/factory/src/table.rt
+    python3 tests/expect/factory.py            writes the numbers in crates/factory/src/table.rt
                                                and crates/factory_net/proofs/Numbers.antt
     python3 tests/expect/factory.py --check    says whether they are current
+
+What stands above the numbers in these files stays as it is.
 """
 import sys
 from pathlib import Path
@@ -18,22 +19,6 @@ from stored import keep
 
 SHAPE = (2, 2, 2, 1)
 NUMBERS = net(SHAPE)
-CODE = """\
-// The numbers of the defined net of 2, 2, 2, 1, in index order: a block of lines is a layer z, a line a row y
-// of it, from x = 0. tests/expect/factory.py writes them, from what the evaluator computes.
-pub(crate) const TABLE: [u32; {}] = [
-{}];
-"""
-PROOFS = """\
--- The numbers of the defined net of 2, 2, 2, 1, in index order, a line for each row y of a layer z, from x = 0.
--- tests/expect/factory.py writes them, from what the evaluator computes.
-use mathlib.Core.List.{{List, [], _∷_}}
-use Prim.Native.Nat.{{ℕ}}
-
-unfoldable pub numbers : List ℕ
-numbers =
-{}    []
-"""
 
 
 def rows(remark, width, divided):
@@ -48,5 +33,13 @@ def rows(remark, width, divided):
     return "".join(lines)
 
 
-keep(ROOT / "crates/factory/src/table.rt", CODE.format(len(NUMBERS), rows("//", 2, ", ")))
-keep(ROOT / "crates/factory_net/proofs/Numbers.antt", PROOFS.format(rows("--", 1, " ∷ ")))
+def renew(path, last, numbers):
+    """Keeps the file as far as this last line above the numbers."""
+    head, found, _ = path.read_text().partition(f"\n{last}\n")
+    assert found, f"{path} has no line {last}"
+    keep(path, head + found + numbers)
+
+
+TABLE = f"pub(crate) const TABLE: [u32; {len(NUMBERS)}] = ["
+renew(ROOT / "crates/factory/src/table.rt", TABLE, rows("//", 2, ", ") + "];\n")
+renew(ROOT / "crates/factory_net/proofs/Numbers.antt", "numbers =", rows("--", 1, " ∷ ") + "    []\n")

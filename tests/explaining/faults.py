@@ -112,7 +112,7 @@ def liar(out, call, source):
     rename = f"--redefine-sym=torskavel_{call}=true_{call}"
     cc = [os.environ.get("CC", "cc"), "-I", ROOT / "include", "-c", "-o", out / "liar.o", out / "liar.c"]
     rustc = ["rustc", "--edition", "2024", "-L", out, "-l", "static=c_api", "-o", out / "explain"]
-    renamed = ["objcopy", rename, ROOT / "target/staticlib/libc_api.a", out / "libc_api.a"]
+    renamed = ["objcopy", rename, ROOT / "crates/c_api/out/libc_api.a", out / "libc_api.a"]
     added = ["ar", "r", out / "libc_api.a", out / "liar.o"]
     for command in (renamed, cc, added, [*rustc, ROOT / "tools/explain/main.rs"]):
         subprocess.run(command, check=True, stderr=subprocess.DEVNULL)

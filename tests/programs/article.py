@@ -3,7 +3,7 @@
 what is printed: the page's command to the program, its matrix to the article's, its tables of differences to
 the step rule and to the evaluator's net, its table of functions to the code.
 
-Run in the repository, after `rt check shares` and `cargo build --release --offline` in evaluator/.
+Run in the repository, after `rt run </dev/null` in crates/shares and `cargo build --release --offline` in evaluator/.
 """
 import re
 import subprocess

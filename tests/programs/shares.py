@@ -1,9 +1,10 @@
 #!/usr/bin/env python3
-"""Runs the program `shares` itself, target/bin/shares, and compares all that it writes with the evaluator's prints.
+"""Runs the program `shares` itself, crates/shares/out/shares, and compares all that it writes with the evaluator's prints.
 
-Run in the repository, after `rt check shares` and `cargo build --release --offline` in evaluator/. No contract can say what a
-program reads: that it takes all that is typed, however it comes, is held here alone.
+Run in the repository, after `rt run </dev/null` in crates/shares and `cargo build --release --offline` in evaluator/. No
+contract can say what a program reads: that it takes all that is typed, however it comes, is held here alone.
 """
+import errno
 import itertools
 import os
 import select
@@ -16,12 +17,13 @@ from pathlib import Path
 sys.path.append(str(Path(__file__).resolve().parents[1]))
 from evaluator import ROOT, prints
 
-PROGRAM = str(ROOT / "target/bin/shares")
+PROGRAM = str(ROOT / "crates/shares/out/shares")
 STORED = ROOT / "vectors/shares.txt"
 PIPE = subprocess.PIPE
 LONG = 4 << 20  # bytes, more than a pipe holds
 PAUSE = 0.002  # seconds
 WAIT = 10  # seconds, in which an answer must have come
+FAULT = 1  # the status of a run whose stream cannot be read or written
 
 
 def check(case, written, expected, fault="", errors=""):
@@ -31,12 +33,18 @@ def check(case, written, expected, fault="", errors=""):
             sys.exit(f"shares, {case}: {what} {found[:80]!r}, not {right[:80]!r}")
 
 
-def run(case, expected, fault="", **streams):
+def run(case, expected, fault="", status=0, **streams):
     """The program as it runs with these standard streams."""
     ran = subprocess.run([PROGRAM], **{"stdout": PIPE} | streams, stderr=PIPE, timeout=WAIT)
     check(case, (ran.stdout or b"").decode(), expected, fault, ran.stderr.decode())
-    if ran.returncode != 0:
-        sys.exit(f"shares, {case}: ended with {ran.returncode}")
+    if ran.returncode != status:
+        sys.exit(f"shares, {case}: ended with {ran.returncode}, not {status}")
+
+
+def failed(case, number, kind, **streams):
+    """The program where a stream fails with this number of the system: it is told, and nothing is printed."""
+    told = f'Error: Os {{ code: {number}, kind: {kind}, message: "{os.strerror(number)}" }}\n'
+    run(case, "", told, FAULT, **streams)
 
 
 def stored():
@@ -95,8 +103,9 @@ def piece_by_piece():
             sys.exit(f"shares, {case!r} byte by byte: no answer")
         written, errors = program.stdout.read(), program.stderr.read()
         program.stdin.close()
-        program.wait()
         check(f"{case!r} byte by byte", written.decode(), expected, "", errors.decode())
+        if program.wait(WAIT) != 0:
+            sys.exit(f"shares, {case!r} byte by byte: ended with {program.returncode}")
     return len(cases)
 
 
@@ -114,19 +123,19 @@ def long():
 
 
 def faults():
-    """Streams that cannot be read or written: the fault is told on standard error, and nothing is printed."""
+    """Streams that cannot be read or written: the fault is told on standard error and by the status."""
     [empty] = prints([b""])
     run("no input", empty, stdin=subprocess.DEVNULL)
-    unread, unwritten = "standard input: ", "standard output: "
+    none = errno.EBADF, "Uncategorized"
     with open(os.devnull, "wb") as output:
-        run("input open for writing", "", unread + "Bad file descriptor\n", stdin=output)
+        failed("input open for writing", *none, stdin=output)
     directory = os.open("/", os.O_RDONLY)
-    run("a directory as input", "", unread + "Is a directory\n", stdin=directory)
+    failed("a directory as input", errno.EISDIR, "IsADirectory", stdin=directory)
     os.close(directory)
-    run("closed input", "", unread + "Bad file descriptor\n", preexec_fn=lambda: os.close(0))
+    failed("closed input", *none, preexec_fn=lambda: os.close(0))
     with open("/dev/full", "wb") as full:
-        run("full output", "", unwritten + "No space left on device\n", input=b"132\n", stdout=full)
-    run("closed output", "", unwritten + "Bad file descriptor\n", input=b"132\n", preexec_fn=lambda: os.close(1))
+        failed("full output", errno.ENOSPC, "StorageFull", input=b"132\n", stdout=full)
+    failed("closed output", *none, input=b"132\n", preexec_fn=lambda: os.close(1))
     return 6
 
 
