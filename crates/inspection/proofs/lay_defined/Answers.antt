@@ -20,7 +20,8 @@ use Rattle.defined_order.specs.Bytes.{defined_byte}
 use Rattle.inspection.proofs.lay_defined.Goals as goal
 
 -- the defined order is made, as the first of these bytes
-module _ (v : Multiplicities) (l : Limits v 12) (bytes : List ℕ) (is : bytes ≡ tabulate (defined_byte v) 8) where
+module _ (v : Multiplicities) (l : Limits v 12) (bytes : List ℕ)
+    (is : bytes ≡ tabulate (defined_byte v) 8) where
   positive : Positive v
   positive = limits-positive l
 

@@ -8,7 +8,8 @@ use Rattle.orders.specs.Order.{order_number}
 use Rattle.net.proofs.repeat.lay_simple.Given as goal
 
 abbrev pub invariant-loop-i : goal.invariant-loop-i
-invariant-loop-i l = (l.i ≤ 27) × (l.net ≡ filled (order_number []) l.i l.initial.net) × (length l.net ≡ length l.initial.net)
+invariant-loop-i l =
+    (l.i ≤ 27) × (l.net ≡ filled (order_number []) l.i l.initial.net) × (length l.net ≡ length l.initial.net)
 
 abbrev pub decreases-loop-i : goal.decreases-loop-i
 decreases-loop-i l = 27 - l.i

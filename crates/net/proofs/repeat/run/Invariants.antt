@@ -9,7 +9,8 @@ use Rattle.net.proofs.repeat.run.Given as goal
 
 abbrev pub invariant-loop-t : goal.invariant-loop-t
 invariant-loop-t l = (l.t ≤ length l.order) × (counted l.c ≡ order_multiplicities (take l.t l.order))
-    × (repeats (drop l.t l.order) (counted l.c) (slices l.net l.work) ≡ repeats l.order (counted l.initial.c) (slices l.initial.net l.initial.work))
+    × (repeats (drop l.t l.order) (counted l.c) (slices l.net l.work)
+    ≡ repeats l.order (counted l.initial.c) (slices l.initial.net l.initial.work))
     × (length l.net ≡ length l.initial.net) × (length l.work ≡ length l.initial.work)
 
 abbrev pub decreases-loop-t : goal.decreases-loop-t
