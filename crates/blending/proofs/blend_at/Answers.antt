@@ -4,13 +4,11 @@ use mathlib.Core.Path.{◌∙◌, ◌≡◌, ap, ap₂, refl, sym}
 use Prim.Native.Nat.{◌<◌, ℕ}
 use native.Mathlib.Nat.{le_refl, lt_of_lt_of_le}
 use native.Mathlib.Omega.{arith}
-use borrow.Author.Rules.{rules}
-use borrow.Author.Tests.{not-false, not-true}
 use lib.IntN.{pos, ℤ}
 use lib.ListN.{get_or-replicate}
 use Rattle.sums.specs.Fill.{number_at, signed_at}
 use Rattle.sums.specs.Search.{Found, nowhere}
-use Rattle.spline.specs.Multiplicities.{Multiplicities, degree}
+use Rattle.spline.specs.Multiplicities.{Multiplicities}
 use Rattle.checks.proofs.Checks.{stopped-passed, at-passed}
 use Rattle.checks.specs.Checks.{refuse_at}
 use Rattle.checks.specs.declared.Checked.TheVariants.{Passed}

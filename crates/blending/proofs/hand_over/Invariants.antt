@@ -1,12 +1,6 @@
 -- After t turns the first t places are written.
-use mathlib.Core.Path.{◌∙◌, ◌≡◌, ap, refl, sym}
+use mathlib.Core.Path.{◌≡◌}
 use Prim.Native.Nat.{◌-◌, ◌≤◌}
-use native.Mathlib.Omega.{arith}
-use lib.ListN.{length}
-use mir.Facts.{to_z-of_z}
-use mir.Syntax.{w64}
-use mir.Val.{SFits}
-use Rattle.sums.proofs.Fill.{fill_none, fill-store, length-filled}
 use Rattle.sums.specs.Fill.{filled, number_at, signed_at}
 use Rattle.blending.proofs.hand_over.Given as goal
 

@@ -1,8 +1,7 @@
 -- Before a position every entry has been added and none is a gap.
 use mathlib.Core.Path.{◌∙◌, ◌≡◌, ap, ap₂, refl, subst, sym}
-use Prim.Native.Nat.{◌*◌, ◌+◌, ◌-◌, ◌<◌, ℕ}
+use Prim.Native.Nat.{◌*◌, ◌+◌, ◌<◌, ℕ}
 use native.Mathlib.Omega.{arith}
-use borrow.Author.Rules.{rules}
 use lib.IntN.{ℤ}
 use lib.ListN.{length}
 use mir.Facts.{to_z-of_z}
@@ -15,9 +14,9 @@ use Rattle.unit.specs.Gaps.{is_gap}
 use Rattle.frame.specs.declared.Frame.{Frame}
 use Rattle.window.specs.declared.position.Position.{Position}
 use Rattle.blending.proofs.SoFar.{passed, passed-next}
-use Rattle.blending.proofs.Steps.{Kept, kept-room}
+use Rattle.blending.proofs.Steps.{kept-room}
 use Rattle.blending.proofs.Sweep.{small-more}
-use Rattle.blending.proofs.Turns.{Turn, entries-passed, entry_sums_at, turn-first, turn-hit, turn-next}
+use Rattle.blending.proofs.Turns.{entries-passed, entry_sums_at, turn-first, turn-hit, turn-next}
 use Rattle.blending.proofs.Turns.{turn-none, turn-sums, turn-within}
 use Rattle.blending.specs.Inner.Frame.{entry_at}
 use Rattle.blending.specs.Inner.Search.{window_gaps}

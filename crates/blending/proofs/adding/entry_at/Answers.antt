@@ -1,6 +1,5 @@
 -- A block's index is small.
 use native.Mathlib.Omega.{arith}
-use borrow.Author.Rules.{rules}
 use Rattle.blending.proofs.Indices.{entry-layer, entry_row}
 use Rattle.blending.proofs.adding.entry_at.Goals as goal
 

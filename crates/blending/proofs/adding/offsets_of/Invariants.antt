@@ -1,14 +1,8 @@
 -- After t turns the first t offsets are listed, and the local place is the t-th.
-use mathlib.Core.Path.{◌∙◌, ◌≡◌, ap, refl}
-use Prim.Native.Nat.{◌*◌, ◌-◌, ◌<◌, ◌≤◌, ℕ}
-use native.Mathlib.Nat.{mul-le-mul}
-use native.Mathlib.Omega.{arith}
-use borrow.Author.Count.{below_more}
-use borrow.Author.Rules.{rules}
-use lib.ListN.{get_or-replicate, length, length-set, set}
-use lib.Seq.{get_or-set_other, get_or-set_same}
+use mathlib.Core.Path.{◌≡◌}
+use Prim.Native.Nat.{◌-◌, ◌<◌, ◌≤◌, ℕ}
+use lib.ListN.{length}
 use Rattle.sums.specs.Fill.{number_at}
-use Rattle.tetrahedron.proofs.LocalPlaces.{local-next, ordered_at}
 use Rattle.tetrahedron.specs.LocalPlaces.{local_at}
 use Rattle.blending.specs.Inner.Frame.{offset_of}
 use Rattle.blending.proofs.adding.offsets_of.Given as goal

@@ -1,6 +1,5 @@
 -- A net's index is small.
 use native.Mathlib.Omega.{arith}
-use borrow.Author.Rules.{rules}
 use Rattle.blending.proofs.Indices.{share-layer, share-row, share-whole}
 use Rattle.blending.proofs.adding.share_at.Goals as goal
 

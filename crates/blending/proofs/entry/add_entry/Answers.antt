@@ -8,7 +8,7 @@ use mir.Facts.{to_z-of_z}
 use mir.Syntax.{w16}
 use mir.Val.{of_z, to_z}
 use Rattle.sums.specs.Fill.{number_at}
-use Rattle.blending.proofs.Steps.{Kept, added-cong, added_none, added-on, kept-room}
+use Rattle.blending.proofs.Steps.{added-cong, added_none, added-on, kept-room}
 use Rattle.blending.specs.Inner.Sums.{Sums, entry_sums, sums_in}
 use Rattle.blending.specs.Inner.Window.{AddedIn}
 use Rattle.blending.proofs.entry.add_entry.Goals as goal

@@ -1,14 +1,9 @@
 -- After g turns the first 4×g places have their shares added, the others not yet.
 use mathlib.Core.List.{List}
-use mathlib.Core.Path.{◌∙◌, ◌≡◌, ap, refl}
-use Prim.Native.Nat.{◌*◌, ◌+◌, ◌-◌, ◌<◌, ◌≤◌, ℕ}
-use native.Mathlib.Omega.{arith}
+use Prim.Native.Nat.{◌*◌, ◌+◌, ◌-◌, ◌≤◌, ℕ}
 use lib.IntN.{ℤ}
-use mir.Facts.{to_z-of_z}
-use mir.Syntax.{w16}
-use mir.Val.{of_z, to_z}
 use Rattle.sums.specs.Fill.{number_at}
-use Rattle.blending.proofs.Steps.{Kept, added-cong, added_none, added-on, kept-room}
+use Rattle.blending.proofs.Steps.{Kept}
 use Rattle.blending.specs.Inner.Sums.{Sums, entry_sums, sums_in}
 use Rattle.blending.specs.Inner.Window.{AddedIn}
 use Rattle.blending.proofs.entry.add_entry.Given as goal

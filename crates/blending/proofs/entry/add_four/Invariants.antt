@@ -1,16 +1,9 @@
 -- Four shares of 0 add nothing; else after i turns the first i of the four have been added.
 use mathlib.Core.List.{List}
-use mathlib.Core.Path.{◌≡◌, ap, refl}
-use Prim.Native.Nat.{◌+◌, ◌-◌, ◌<◌, ◌≤◌, suc, zero, ℕ}
-use native.Mathlib.Omega.{arith}
-use borrow.Author.Rules.{rules}
-use borrow.Author.Tests.{eqb-true}
+use Prim.Native.Nat.{◌+◌, ◌-◌, ◌≤◌, ℕ}
 use lib.IntN.{ℤ}
-use mir.Facts.{to_z-of_z}
-use mir.Syntax.{w16}
-use mir.Val.{of_z, to_z}
 use Rattle.sums.specs.Fill.{number_at}
-use Rattle.blending.proofs.Steps.{Kept, added-cong, added_none, added-nothing, added-on, kept-room}
+use Rattle.blending.proofs.Steps.{Kept}
 use Rattle.blending.specs.Inner.Sums.{Sums, entry_sums, sums_in}
 use Rattle.blending.specs.Inner.Window.{AddedIn}
 use Rattle.blending.proofs.entry.add_four.Given as goal

@@ -2,7 +2,6 @@
 use mathlib.Core.Path.{◌∙◌, ◌≡◌, refl}
 use Prim.Native.Nat.{◌*◌, ◌+◌, ◌<◌, ◌^◌, ◌≤◌}
 use native.Mathlib.Omega.{arith}
-use borrow.Author.Rules.{rules}
 use lib.IntN.{*ℤ_comm, ◌*ℤ◌, nat_abs, pos, ℤ}
 use mir.Facts.{sfits_widen, to_z-of_z}
 use mir.Syntax.{w16, w64}
