@@ -1,6 +1,5 @@
 -- A point that is placed is valued; one that is not is refused as a law on the two calls in turn says.
 use mathlib.Core.Path.{◌∙◌, ◌≡◌, sym}
-use borrow.Author.Rules.{rules}
 use Rattle.placing.proofs.HandedOn.{handed-on}
 use Rattle.placing.specs.Place.{place_answer}
 use Rattle.answers.proofs.Point.{two-calls}

@@ -1,6 +1,5 @@
 -- The degree is that of the unit's net, and the sums and the denominator are of it.
 use mathlib.Core.Path.{◌∙◌, ◌≡◌, ap, refl}
-use borrow.Author.Rules.{rules}
 use mir.Facts.{to_z-of_z}
 use mir.Syntax.{w64}
 use mir.Val.{SFits}

@@ -1,8 +1,7 @@
 -- After t turns the sum is that of the first t local places, and the local place is the t-th.
 use mathlib.Core.Path.{◌∙◌, ◌≡◌, ap, ap₂}
-use Prim.Native.Nat.{◌-◌, ◌<◌, ◌≤◌}
+use Prim.Native.Nat.{◌-◌, ◌<◌}
 use native.Mathlib.Omega.{arith}
-use borrow.Author.Rules.{rules}
 use mir.Facts.{to_z-of_z}
 use mir.Syntax.{w64}
 use mir.Val.{SFits}
@@ -17,7 +16,7 @@ use Rattle.parts.specs.Parts.{add_parts, first_parts, weighed}
 use Rattle.parts.specs.Weights.{weight_at}
 use Rattle.tetrahedron.proofs.LocalPlaces.{local-next, ordered_at}
 use Rattle.tetrahedron.proofs.Numbers.{count_most, degree-at}
-use Rattle.tetrahedron.specs.LocalPlaces.{local_at, local_places}
+use Rattle.tetrahedron.specs.LocalPlaces.{local_places}
 use Rattle.tetrahedron.specs.declared.local.LocalPlace.{LocalPlace}
 use Rattle.point.proofs.bernstein.bernstein_sums.Goals as goal
 use Rattle.point.proofs.bernstein.bernstein_sums.Goals.{After-term, After-weight-w, In-loop-t}

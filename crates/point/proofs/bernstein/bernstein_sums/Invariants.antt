@@ -1,24 +1,9 @@
 -- After t turns the sum is that of the first t local places, and the local place is the t-th.
-use mathlib.Core.Path.{◌∙◌, ◌≡◌, ap, ap₂}
-use Prim.Native.Nat.{◌-◌, ◌<◌, ◌≤◌}
-use native.Mathlib.Omega.{arith}
-use borrow.Author.Rules.{rules}
-use mir.Facts.{to_z-of_z}
-use mir.Syntax.{w64}
-use mir.Val.{SFits}
-use Rattle.sums.proofs.Coefficient.{factorial-nine}
+use mathlib.Core.Path.{◌≡◌}
+use Prim.Native.Nat.{◌-◌, ◌≤◌}
 use Rattle.sums.specs.Fill.{number_at, signed_at}
-use Rattle.binomials.proofs.Binomials.{table-held}
-use Rattle.answers.specs.Bernstein.{term_weight}
-use Rattle.parts.proofs.Parts.{next-numerator, next-uncertainty, parts_next, parts_none, shift-size}
-use Rattle.parts.proofs.Parts.{shift-weighed, spread-weighed}
-use Rattle.parts.proofs.Weights.{powers-within}
-use Rattle.parts.specs.Parts.{add_parts, first_parts, weighed}
-use Rattle.parts.specs.Weights.{weight_at}
-use Rattle.tetrahedron.proofs.LocalPlaces.{local-next, ordered_at}
-use Rattle.tetrahedron.proofs.Numbers.{count_most, degree-at}
-use Rattle.tetrahedron.specs.LocalPlaces.{local_at, local_places}
-use Rattle.tetrahedron.specs.declared.local.LocalPlace.{LocalPlace}
+use Rattle.parts.specs.Parts.{first_parts}
+use Rattle.tetrahedron.specs.LocalPlaces.{local_at}
 use Rattle.point.proofs.bernstein.bernstein_sums.Given as goal
 
 abbrev pub invariant-loop-t : goal.invariant-loop-t

@@ -1,11 +1,7 @@
 -- After i turns the product is i!×D^i.
-use mathlib.Core.Path.{◌∙◌, ◌≡◌, ap, refl, sym}
-use Prim.Native.Nat.{◌*◌, ◌+◌, ◌-◌, ◌≤◌, ℕ}
-use native.Mathlib.Nat.{mul-le-mul}
-use native.Mathlib.Omega.{arith}
-use borrow.Author.Rules.{rules}
-use Rattle.divisor_checks.proofs.Scale.{scale-le, scale-next, scale-zero}
-use Rattle.divisor_checks.specs.Divisor.{limit, scale}
+use mathlib.Core.Path.{◌≡◌}
+use Prim.Native.Nat.{◌-◌, ◌≤◌}
+use Rattle.divisor_checks.specs.Divisor.{scale}
 use Rattle.point.proofs.bernstein.denominator.Given as goal
 
 abbrev pub invariant-loop-i : goal.invariant-loop-i

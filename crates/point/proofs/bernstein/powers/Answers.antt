@@ -1,11 +1,11 @@
 -- After i turns the table holds the powers 0 to i.
 use mathlib.Core.Path.{◌∙◌, ◌≡◌, refl}
-use Prim.Native.Nat.{◌*◌, ◌+◌, ◌-◌, ◌<◌, ◌^◌, ◌≤◌, ℕ}
+use Prim.Native.Nat.{◌*◌, ◌+◌, ◌<◌, ◌^◌, ℕ}
 use native.Mathlib.Nat.{pow-suc, pow-zero}
 use native.Mathlib.Numerals.{add-one}
 use native.Mathlib.Omega.{arith}
 use borrow.Author.Count.{below_more}
-use lib.ListN.{get_or, length, length-set, set}
+use lib.ListN.{get_or, length-set, set}
 use lib.Seq.{get_or-set_other, get_or-set_same}
 use Rattle.point.proofs.bernstein.powers.Goals as goal
 use Rattle.point.proofs.bernstein.powers.Goals.{In-loop-i}

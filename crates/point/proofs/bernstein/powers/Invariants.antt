@@ -1,12 +1,7 @@
 -- After i turns the table holds the powers 0 to i.
-use mathlib.Core.Path.{◌∙◌, ◌≡◌, refl}
-use Prim.Native.Nat.{◌*◌, ◌+◌, ◌-◌, ◌<◌, ◌^◌, ◌≤◌, ℕ}
-use native.Mathlib.Nat.{pow-suc, pow-zero}
-use native.Mathlib.Numerals.{add-one}
-use native.Mathlib.Omega.{arith}
-use borrow.Author.Count.{below_more}
-use lib.ListN.{get_or, length, length-set, set}
-use lib.Seq.{get_or-set_other, get_or-set_same}
+use mathlib.Core.Path.{◌≡◌}
+use Prim.Native.Nat.{◌+◌, ◌-◌, ◌<◌, ◌^◌, ◌≤◌, ℕ}
+use lib.ListN.{get_or, length}
 use Rattle.point.proofs.bernstein.powers.Given as goal
 
 abbrev pub invariant-loop-i : goal.invariant-loop-i

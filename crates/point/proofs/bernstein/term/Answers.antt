@@ -1,6 +1,5 @@
 -- The sizes of the factors bound the products.
 use mathlib.Core.Path.{refl}
-use borrow.Author.Rules.{rules}
 use mir.Syntax.{w64}
 use Rattle.sums.proofs.MachineSizes.{mul-fits, mul-read}
 use Rattle.point.proofs.bernstein.term.Goals as goal
