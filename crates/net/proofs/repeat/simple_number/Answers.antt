@@ -6,20 +6,16 @@ use native.Mathlib.Omega.{arith}
 use Rattle.sums.proofs.Places.{index_back}
 use Rattle.spline.specs.Build.{built, simple}
 use Rattle.net.proofs.Simple.{simple-zero}
-use Rattle.net.proofs.repeat.simple_number.Statement.{statement}
 use Rattle.orders.specs.Order.{order_number}
-use Rattle.net.proofs.repeat.simple_number.Tie as tie
+use Rattle.net.proofs.repeat.simple_number.Goals as goal
 
-returns : tie.Need-returns
+pub returns-then-i-eq13 : goal.returns-then-i-eq13
 unfolding simple built
-returns c = ap (order_number []) (sym c.if1.true)
+returns-then-i-eq13 c = ap (order_number []) (sym c.if-i-eq13.true)
 
-returns-2 : tie.Need-returns-2
+pub returns-else-i-eq13 : goal.returns-else-i-eq13
 unfolding built
-returns-2 c =
-    let i = c.before.args.i in
+returns-else-i-eq13 c =
+    let i = c.args.i in
     sym (simple-zero (i % 3) (i / 3 % 3) (i / 3 / 3)
-    (λ e f g. c.if1.false (omega (arith, index_back 3 3 i))))
-
-pub simple-number-spec : {M : Type 1} → statement M
-simple-number-spec = tie.close (tie.spec returns returns-2)
+    (λ e f g. c.if-i-eq13.false (omega (arith, index_back 3 3 i))))
