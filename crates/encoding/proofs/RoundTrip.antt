@@ -12,7 +12,6 @@ use lib.ListN.{length-map}
 use lib.Seq.{get_or-append-add}
 use Rattle.sums.proofs.Fill.{list-is-tabulate, tabulate-cong}
 use Rattle.sums.specs.Fill.{filled}
-use Rattle.sums.specs.Search.{at}
 use Rattle.checks.specs.declared.Checked.TheVariants.{Passed}
 use Rattle.allowed.proofs.Limits.{BlockLimits, sizes-limits}
 use Rattle.unit.proofs.Gaps.{certain}

@@ -12,7 +12,7 @@ use Rattle.file.specs.File.{signed}
 
 -- a signed number of 16 bits, read back from them
 pub read_back : {z y : ℤ} → mag z < 32768 → z ≡ y → to_z w16 (of_z w16 z) ≡ y
-read_back h e = to_z-of_z (sfits_of h) ∙ e
+read_back h e = to_z-of_z {w = w16} (sfits_of h) ∙ e
 
 -- the lower half stands for itself
 pub signed_low : (w : ℕ) → w < 32768 → signed w ≡ pos w
