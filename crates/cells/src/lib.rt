@@ -2,7 +2,7 @@
 // docs/SPECIFICATION.md, Section 6.3.
 #![tactic(auto)]
 
-ghost use Rattle.std.specs.Prelude.{cond, ◌≡◌, ltb};
+ghost use Rattle.std.specs.Prelude.{cond, ◌≡◌, ltb, ◌*◌, ◌≤◌};
 ghost use Rattle.spline.specs.Build.{direction};
 ghost use Rattle.spline.specs.Rule.{lower_above};
 ghost use Rattle.cells.specs.Coordinates.{cell_of, pivot_of};
@@ -44,7 +44,8 @@ pub struct Cell {
 // Those of the coordinate where the pass begins: on an axis that the direction moves along (step 1) it is −1,
 // which is g when taken a cell up; on the others it is 0.
 pub fn first_cell(g: usize, step: usize) -> Cell
-    ensures { result ≡ cell_of g (cond (ltb 0 step) g 0) }
+    ensures at_any_step { result ≡ cell_of g (cond (ltb 0 step) g 0) }
+    ensures up_to_one { step ≤ 1 → result ≡ cell_of g (g * step) }
 {
     let mut u = 0;
     if 0 < step {

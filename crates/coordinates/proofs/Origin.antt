@@ -10,7 +10,7 @@ use lib.Signed.{lt_z, non_neg}
 use Rattle.sums.proofs.Signed.{abs_diff, abs-mul}
 use Rattle.checks.proofs.Checks.{if-passed}
 use Rattle.checks.specs.declared.Checked.TheVariants.{Passed}
-use Rattle.coordinates.specs.Coordinates.{farthest, from_origin, sign_check}
+use Rattle.coordinates.specs.Coordinates.{farthest_over, from_origin, sign_check}
 
 -- what lies t past the origin is read as t
 pub read_past : (t : ℕ) (o : ℤ) (D : ℕ) → from_origin (pos t +ℤ o *ℤ pos D) o D ≡ pos t
@@ -23,7 +23,7 @@ origin-small o D ho = rw (abs-mul o (pos D)) (mul-le-mul_right D ho)
 
 -- how far a coordinate of 32 bits may be read to lie
 pub read_small : (x o : ℤ) (D : ℕ) → nat_abs x ≤ 2147483648 → nat_abs o ≤ 32768
-    → nat_abs (from_origin x o D) ≤ farthest D
+    → nat_abs (from_origin x o D) ≤ farthest_over D
 unfolding from_origin
 read_small x o D hx ho =
     let size = abs_diff x (o *ℤ pos D) in

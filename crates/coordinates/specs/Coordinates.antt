@@ -15,9 +15,9 @@ from_origin x o D = x -ℤ o *ℤ pos D
 abbrev pub distance : ℤ → ℤ → ℕ → ℕ
 distance x o D = nat_abs (from_origin x o D)
 
--- how far it may be read to lie: a coordinate has 32 bits, an origin 16
-abbrev pub farthest : ℕ → ℕ
-farthest D = 2147483648 + 32768 * D
+-- how far it may be read to lie over D: a coordinate has 32 bits, an origin 16
+abbrev pub farthest_over : ℕ → ℕ
+farthest_over D = 2147483648 + 32768 * D
 
 -- Section 5.3: 12 for a coordinate that is negative when it is read from the origin
 unfoldable pub sign_check : ℤ → ℤ → ℤ → Checked

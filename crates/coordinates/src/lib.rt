@@ -3,13 +3,15 @@
 #![tactic(auto)]
 
 ghost use Rattle.std.specs.Prelude.{◌≡◌, ◌-◌, ◌≤◌, nat_abs};
-ghost use Rattle.coordinates.specs.Coordinates.{farthest, from_origin, located, sign_check};
+ghost use Rattle.coordinates.specs.Coordinates.{farthest_over, from_origin, located, sign_check};
+ghost use Rattle.coordinates.specs.Inner.Reading.{farthest};
 
 use checks::Checked;
 
 // A coordinate, read from the origin of its axis; in 64 bits, since it may be past 32.
 pub fn from_origin(x: i32, origin: i16, divisor: u32) -> i64
-    ensures { (result ≡ from_origin x origin divisor) × (nat_abs result ≤ farthest divisor) }
+    ensures read { (result ≡ from_origin x origin divisor) × (nat_abs result ≤ farthest_over divisor) }
+    ensures near { divisor ≤ 4096 → nat_abs result ≤ farthest }
 {
     x as i64 - origin as i64 * divisor as i64
 }

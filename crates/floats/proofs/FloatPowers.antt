@@ -1,11 +1,12 @@
 -- Powers that floats make one from another are the floats of the powers, as long as these are within 2^53.
+use mathlib.Core.List.{List}
 use mathlib.Core.Path.{◌∙◌, ◌≡◌, ap, refl}
 use Prim.Native.Nat.{◌+◌, ◌<◌, ◌^◌, ◌≤◌, suc, zero, ℕ}
 use native.Mathlib.Nat.{pow-suc, pow-zero}
 use native.Mathlib.Numerals.{add-one}
 use native.Mathlib.Omega.{arith}
 use borrow.Author.Tests.{le-leb, lt-leb}
-use lib.Ieee.{binary64, mul, nan}
+use lib.Ieee.{Float, binary64, mul, nan}
 use lib.IntN.{pos}
 use lib.ListN.{length}
 use Rattle.sums.proofs.Fill.{filled_at}
@@ -57,3 +58,9 @@ unfolding float_powers
 powers-float l m h within i k =
     rw (le-leb m 9 h)
     (filled_at (float_power l) (m + 1) ones i nan (omega arith) ∙ power-float l m within i k)
+
+-- and so has a list that is the table
+pub powers-tabled : (l m : ℕ) {r : List Float} → r ≡ float_powers l m
+    → (m ≤ 9) × ((i : ℕ) → i ≤ m → l ^ i ≤ exact)
+    → (i : ℕ) → i ≤ m → float_at r i ≡ float (pos (l ^ i))
+powers-tabled l m e h i k = ap (λ (t : List Float). float_at t i) e ∙ powers-float l m h.0 h.1 i k

@@ -53,7 +53,7 @@ pub fn one_more(c: Counts, d: u8) -> Counts
 // The multiplicities that an order leads to.
 fn counts_of(order: &[u8]) -> Counts
     requires { GoodOrder order.now }
-    ensures { counted result ≡ order_multiplicities order.now }
+    ensures { (counted result ≡ order_multiplicities order.now) × Limits (counted result) 12 }
 {
     let mut c = Counts {
         v1: 1,

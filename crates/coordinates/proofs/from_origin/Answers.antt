@@ -8,7 +8,7 @@ use mir.Syntax.{w16, w32, w64}
 use mir.Val.{SFits, of_z, to_z}
 use Rattle.sums.proofs.MachineSizes.{fits, fits-size}
 use Rattle.coordinates.proofs.Origin.{origin-small, read_small}
-use Rattle.coordinates.specs.Coordinates.{farthest, from_origin}
+use Rattle.coordinates.specs.Coordinates.{farthest_over, from_origin}
 use Rattle.coordinates.proofs.from_origin.Goals as goal
 use Rattle.coordinates.proofs.from_origin.Goals.{Start}
 
@@ -42,7 +42,7 @@ module _ (c : Start) where
       let small = origin-small o D (fits-size w16 o c.ranges.origin) in
       fits w64 (o *ℤ pos D) (omega (arith, small))
 
-  small : nat_abs (from_origin x o D) ≤ farthest D
+  small : nat_abs (from_origin x o D) ≤ farthest_over D
   small = read_small x o D (fits-size w32 x c.ranges.x) (fits-size w16 o c.ranges.origin)
 
   difference-fits : SFits w64 (x -ℤ o *ℤ pos D)
@@ -73,12 +73,15 @@ overflow_sub-result c =
 pub returns : goal.returns
 unfolding from_origin
 returns c =
+    let a = (goal.at.returns c).Start in
+    let exact = to_z-of_z (difference-fits a) in
+    let low = small a in
     rw (
-      x-is (goal.at.returns c).Start,
-      to_z-of_z (x-wide (goal.at.returns c).Start),
-      o_is (goal.at.returns c).Start,
-      to_z-of_z (o-wide (goal.at.returns c).Start),
-      divisor-is (goal.at.returns c).Start,
-      to_z-of_z (product-fits (goal.at.returns c).Start),
+      x-is a,
+      to_z-of_z (x-wide a),
+      o_is a,
+      to_z-of_z (o-wide a),
+      divisor-is a,
+      to_z-of_z (product-fits a),
     )
-    (to_z-of_z (difference-fits (goal.at.returns c).Start), rw (to_z-of_z (difference-fits (goal.at.returns c).Start)) (omega (arith, small (goal.at.returns c).Start)))
+    record { read = (exact, rw exact (omega (arith, low))); near = λ few. rw exact (omega (arith, low, few)) }

@@ -13,13 +13,13 @@ pub loop-z-init : goal.loop-z-init
 loop-z-init c =
     let first = c.first_cell-cz in
     let step = ap (λ (v : Vector). v.z) c.vector_of-v.ensures in
-    (cell-first (direction c.args.d) a3 c.args.old.m first.result _ step first.ensures, none_filled)
+    (cell-first (direction c.args.d) a3 c.args.old.m first.result _ step first.ensures.at_any_step, none_filled)
 
 pub loop-y-init : goal.loop-y-init
 loop-y-init c =
     let first = c.first_cell-cy in
     let step = ap (λ (v : Vector). v.y) c.vector_of-v.ensures in
-    (cell-first (direction c.args.d) a2 c.args.old.m first.result _ step first.ensures, λ base h. h)
+    (cell-first (direction c.args.d) a2 c.args.old.m first.result _ step first.ensures.at_any_step, λ base h. h)
 
 pub difference_row-requires : goal.difference_row-requires
 difference_row-requires c =

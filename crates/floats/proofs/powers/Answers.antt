@@ -9,14 +9,18 @@ use lib.ListN.{length, set}
 use Rattle.sums.proofs.Fill.{fill-store, filled_at}
 use Rattle.sums.specs.Fill.{tabulate}
 use Rattle.floats.proofs.FloatPowers.{length-ones, power-next, powers-first, powers-past}
-use Rattle.floats.proofs.FloatPowers.{powers-within}
+use Rattle.floats.proofs.FloatPowers.{powers-tabled, powers-within}
 use Rattle.floats.specs.Floats.{float, float_at}
 use Rattle.floats.specs.Powers.{float_power, ones}
 use Rattle.floats.proofs.powers.Goals as goal
 
 pub returns-then-m-gt9 : goal.returns-then-m-gt9
 unfolding of_bits of_int ones tabulate
-returns-then-m-gt9 c = powers-past c.args.base c.args.m (omega arith)
+returns-then-m-gt9 c =
+    record {
+      table = powers-past c.args.base c.args.m (omega arith);
+      exact_within = λ h. absurd (omega (arith, h.0));
+    }
 
 pub loop-i-init : goal.loop-i-init
 unfolding of_bits of_int ones tabulate
@@ -65,4 +69,5 @@ returns c =
     let at = c.loop-i in
     let a = c.args in
     let e : at.i ≡ a.m = omega arith in
-    rw e at at.invariant.1 ∙ powers-within a.base a.m (omega arith)
+    let table = rw e at at.invariant.1 ∙ powers-within a.base a.m (omega arith) in
+    record { table = table; exact_within = powers-tabled a.base a.m table }

@@ -22,7 +22,7 @@ module _ (c : After-places_of-n) where
   room : c.places_of-n.result ≡ n
   room =
       c.places_of-n.ensures
-      ∙ ap (λ (v : Multiplicities). places (width v)) c.counts_of.ensures
+      ∙ ap (λ (v : Multiplicities). places (width v)) c.counts_of.ensures.0
 
 pub returns-in-Stopped : goal.returns-in-Stopped
 unfolding build_checks

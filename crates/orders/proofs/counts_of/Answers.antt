@@ -1,14 +1,15 @@
 -- After t turns the counts are those of the first t bytes.
-use mathlib.Core.Path.{◌∙◌, ap, refl, sym}
+use mathlib.Core.Path.{◌∙◌, ◌≡◌, ap, refl, subst, sym}
 use Prim.Native.Nat.{◌+◌, ◌≤◌, ℕ}
 use native.Mathlib.Nat.{le_antisymm}
 use native.Mathlib.Omega.{arith}
-use lib.ListN.{get_or, take}
+use lib.ListN.{get_or, length, take}
 use lib.Seq.{take-length}
 use Rattle.spline.specs.Build.{direction}
-use Rattle.spline.specs.Multiplicities.{more, order_multiplicities}
+use Rattle.spline.specs.Multiplicities.{Multiplicities, more, order_multiplicities}
+use Rattle.spline.specs.Inner.Limits.{Limits}
 use Rattle.shape.specs.Shape.{counted}
-use Rattle.orders.proofs.Orders.{multiplicities-next, prefix-limits}
+use Rattle.orders.proofs.Orders.{limits-le, multiplicities-next, order-limits, prefix-limits}
 use Rattle.orders.proofs.counts_of.Goals as goal
 
 pub loop-t-init : goal.loop-t-init
@@ -41,4 +42,7 @@ returns c =
     let o = c.args.order.now in
     let l = c.loop-t in
     let end = le_antisymm l.invariant.0 c.loop-t-test.false in
-    l.invariant.1 ∙ ap order_multiplicities (ap (λ (k : ℕ). take k o) end ∙ take-length o)
+    let few : 4 + length o ≤ 12 = omega (arith, c.requires.short) in
+    let counts : counted l.c ≡ order_multiplicities o
+    = l.invariant.1 ∙ ap order_multiplicities (ap (λ (k : ℕ). take k o) end ∙ take-length o) in
+    (counts, subst (λ (v : Multiplicities). Limits v 12) (sym counts) (limits-le (order-limits o) few))

@@ -48,21 +48,21 @@ module _ (c : After-check_signs) where
   first =
       let told = c.type_inv.unit.1.1.1.1.1.1.1.1.1 in
       read_as c.args.divisor c.ranges.x (record { sfits = told.0.1 })
-      c.from_origin-a.ensures.0 (omega (arith, c.from_origin-a.ensures.1, divisor.few))
+      c.from_origin-a.ensures.read.0 (omega (arith, c.from_origin-a.ensures.read.1, divisor.few))
 
   second : (let a = c.args in
       ReadAs a.y a.unit.o2 a.divisor c.from_origin-b.result)
   second =
       let told = c.type_inv.unit.1.1.1.1.1.1.1.1.1 in
       read_as c.args.divisor c.ranges.y (record { sfits = told.1.0.1 })
-      c.from_origin-b.ensures.0 (omega (arith, c.from_origin-b.ensures.1, divisor.few))
+      c.from_origin-b.ensures.read.0 (omega (arith, c.from_origin-b.ensures.read.1, divisor.few))
 
   third : (let a = c.args in
       ReadAs a.z a.unit.o3 a.divisor c.from_origin-c.result)
   third =
       let told = c.type_inv.unit.1.1.1.1.1.1.1.1.1 in
       read_as c.args.divisor c.ranges.z (record { sfits = told.1.1.0.1 })
-      c.from_origin-c.ensures.0 (omega (arith, c.from_origin-c.ensures.1, divisor.few))
+      c.from_origin-c.ensures.read.0 (omega (arith, c.from_origin-c.ensures.read.1, divisor.few))
 
   -- and their signs are looked at
   signs-are : (let a = c.args in

@@ -50,7 +50,7 @@ pub loop-t-init : goal.loop-t-init
 loop-t-init c =
     let first = first-listed (goal.at.loop-t-init c).Start in
     let p = c.requires in
-    let powers = sizes.powers-tabled p.0 c.args.q.l0 (omega arith) c.powers-x0.ensures in
+    let powers = sizes.powers-tabled p.0 c.args.q.l0 (omega arith) c.powers-x0.ensures.table in
     let weight = powers c.args.m (omega arith)
     ∙ ap (λ (n : ℕ). float (pos n)) (sizes.first-weight c.args.m c.args.q) in (
       omega arith,
@@ -74,10 +74,10 @@ weight-w-requires c =
       }),
       c.table-b.ensures,
       record {
-        of0 = sizes.powers-tabled c.requires.0 c.args.q.l0 (omega arith) c.powers-x0.ensures;
-        of1 = sizes.powers-tabled c.requires.0 c.args.q.l1 (omega arith) c.powers-x1.ensures;
-        of2 = sizes.powers-tabled c.requires.0 c.args.q.l2 (omega arith) c.powers-x2.ensures;
-        of3 = sizes.powers-tabled c.requires.0 c.args.q.l3 (omega arith) c.powers-x3.ensures;
+        of0 = sizes.powers-tabled c.requires.0 c.args.q.l0 (omega arith) c.powers-x0.ensures.table;
+        of1 = sizes.powers-tabled c.requires.0 c.args.q.l1 (omega arith) c.powers-x1.ensures.table;
+        of2 = sizes.powers-tabled c.requires.0 c.args.q.l2 (omega arith) c.powers-x2.ensures.table;
+        of3 = sizes.powers-tabled c.requires.0 c.args.q.l3 (omega arith) c.powers-x3.ensures.table;
       },
     )
 

@@ -129,7 +129,7 @@ overflow_mul-a-2 c = omega (arith, bounds (goal.at.overflow_mul-a-2 c).Start)
 pub overflow_add-b : goal.overflow_add-b
 overflow_add-b c =
     let q = (goal.at.overflow_add-b c).Start in
-    omega (arith, bounds q, (edge q c.vector_of-v.ensures c.edge_width.ensures).most)
+    omega (arith, bounds q, (edge q c.vector_of-v.ensures c.edge_width.ensures.width).most)
 
 pub overflow_add-e : goal.overflow_add-e
 overflow_add-e c = omega (arith, bounds (goal.at.overflow_add-e c).Start)
@@ -137,7 +137,7 @@ overflow_add-e c = omega (arith, bounds (goal.at.overflow_add-e c).Start)
 pub sum_edge-requires : goal.sum_edge-requires
 sum_edge-requires c =
     let q = (goal.at.sum_edge-requires c).Start in
-    let most = low q c.vector_of-v.ensures c.edge_width.ensures in
+    let most = low q c.vector_of-v.ensures c.edge_width.ensures.width in
     let rooms = c.requires.s_in_bounds in
     (omega arith, omega (arith, most, inside q, rooms.0), omega (arith, most, inside q, rooms.1))
 
@@ -145,7 +145,7 @@ pub sum_along-requires : goal.sum_along-requires
 sum_along-requires c =
     let q = (goal.at.sum_along-requires c).Start in
     let v = c.vector_of-v.ensures in
-    let n = c.edge_width.ensures in
+    let n = c.edge_width.ensures.width in
     let h : c.args.d ≡ 1 = omega arith in
     let i = row q + c.edge_width.result in
     let back : i < row q + W q a1 → 1 ≤ i = λ l. omega (arith, one q v h, back-before q v n l) in
@@ -157,7 +157,7 @@ pub returns-then-d-eq1 : goal.returns-then-d-eq1
 returns-then-d-eq1 c =
     let q = (goal.at.returns-then-d-eq1 c).Start in
     let v = c.vector_of-v.ensures in
-    let n = c.edge_width.ensures in
+    let n = c.edge_width.ensures.width in
     let h : c.args.d ≡ 1 = omega arith in
     let entered = c.sum_edge.ensures (edge_row q v n) in
     done q v n entered _ (c.sum_along.ensures (along-rest q v n entered h))
@@ -182,7 +182,7 @@ pub sum_back-requires : goal.sum_back-requires
 sum_back-requires c =
     let q = (goal.at.sum_back-requires c).Start in
     let v = c.vector_of-v.ensures in
-    let n = c.edge_width.ensures in
+    let n = c.edge_width.ensures.width in
     let entered = c.sum_edge.ensures (edge_row q v n) in (
       back_is q v,
       back-before q v n,
@@ -195,6 +195,6 @@ pub returns : goal.returns
 returns c =
     let q = (goal.at.returns c).Start in
     let v = c.vector_of-v.ensures in
-    let n = c.edge_width.ensures in
+    let n = c.edge_width.ensures.width in
     let entered = c.sum_edge.ensures (edge_row q v n) in
     done q v n entered _ (c.sum_back.ensures (rest q v n entered))
