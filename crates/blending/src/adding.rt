@@ -78,7 +78,7 @@ pub(crate) fn add_window(
     let e1 = f.e1;
     let e2 = f.e2;
     let e3 = f.e3;
-    let mut at = Position::first();
+    let mut at = Position { x: 0, y: 0, z: 0 };
     while at.z < e3 {
         let entry = entry_at(f, at);
         let correction = corrections[entry];

@@ -101,7 +101,7 @@ module _ (c : After-add_entry) where
 pub loop-at-init : goal.loop-at-init
 loop-at-init c = (
   record { of_shares = refl; of_shifts = refl; of_spreads = refl },
-  rw c.first-at.ensures (turn-first _ _ _ _ _ _ c.requires.in_window.0.limits c.requires.by_index),
+  turn-first _ _ _ _ _ _ c.requires.in_window.0.limits c.requires.by_index,
 )
 
 pub entry_at-entry-requires : goal.entry_at-entry-requires
