@@ -164,21 +164,24 @@ loop-at-smaller c =
     let w = within (goal.at.loop-at-smaller c).In-loop-at in
     let limits = c.requires.in_window.0.limits in
     let e = entries-passed f here limits w in
-    let one = passed-next f.e1 f.e2 here w.low_x w.low_y (omega (arith, w.low_z, limits.extent3)) in
-    omega (arith, ap (passed f.e1 f.e2) c.next-at.ensures, one)
+    let one = passed-next f.e1 f.e2 here w.low_x w.low_y in
+    let low_z : here.z < 16 = omega (arith, w.low_z, limits.extent3) in
+    omega (arith, ap (passed f.e1 f.e2) (c.next-at.ensures low_z), one)
 
 pub loop-at-preserved : goal.loop-at-preserved
 loop-at-preserved c =
     let places = goal.at.loop-at-preserved c in
     let inv = c.loop-at.invariant in
-    let k = c.add_entry.auto in (
+    let k = c.add_entry.auto in
+    let low_z : c.loop-at.at.z < 16 =
+    omega (arith, c.loop-at-test.true, c.requires.in_window.0.limits.extent3) in (
       record {
         of_shares = omega (arith, inv.0.of_shares);
         of_shifts = omega (arith, inv.0.of_shifts);
         of_spreads = omega (arith, inv.0.of_spreads);
       },
-      rw c.next-at.ensures
-          (turn-next _ _ _ _ _ c.loop-at.at _ inv.1 c.loop-at-test.true c.requires.in_window.0.limits.extent3
+      rw (c.next-at.ensures low_z)
+          (turn-next _ _ _ _ _ c.loop-at.at _ inv.1 c.loop-at-test.true
           _ (sym (gap_is places.After-is_gap) ∙ c.if-is_gap.false)
           (subst (λ (i : ℕ). SFits w16 (signed_at c.args.corrections.now i)) c.entry_at-entry.ensures
           (read_fits places.After-is_gap))
