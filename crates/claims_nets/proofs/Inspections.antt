@@ -26,7 +26,6 @@ use Rattle.chains.proofs.Stopped.{at-stopped, if-other}
 use Rattle.claims_rule.proofs.Numbers.{difference, difference-lowest, found-holds, holds-found, right-numbers}
 use Rattle.claims_rule.specs.Rule.{HoldsDefined, LowestDifference}
 use Rattle.claims_nets.specs.Inspections.{Differing, Inspector, Lowest}
-use Rattle.comparison.specs.Compare.{differs_from}
 
 -- ---- the checks
 

@@ -7,9 +7,6 @@ use Rattle.spline.specs.Build.{Follows, built, direction, simple}
 use Rattle.spline.specs.Defined.{defined, defined_order}
 use Rattle.spline.specs.Place.{Direction, Net, Place}
 use Rattle.claims_rule.specs.Rule.{DefinedRule, Rule}
-use Rattle.builds.proofs.OrderNets.{spread-order}
-use Rattle.builds.specs.Build.{build_net}
-use Rattle.orders.specs.Order.{order_width}
 
 -- the chain of a list of directions has one end
 one_end : (ds : List Direction) (R : Net) → Follows ds 1 simple R ↔ (R ≡ built ds 1 simple)

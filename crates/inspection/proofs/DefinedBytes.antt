@@ -4,7 +4,6 @@ use mathlib.Core.List.{List, [], ◌++◌, ◌∷◌, map, map-append}
 use mathlib.Core.Path.{◌∙◌, ◌≡◌, ap, ap₂, refl, sym}
 use Prim.Native.Nat.{◌+◌, ◌-◌, ◌<◌, ◌≤◌, suc, zero, ℕ}
 use native.Mathlib.Omega.{arith}
-use borrow.Fn.PlainCycle.{is}
 use lib.ListN.{get_or, length, take}
 use Rattle.sums.proofs.Cases.{by-ltb}
 use Rattle.sums.proofs.Fill.{length-tabulate, list-is-tabulate, tabulate-at, tabulate-cong, take-tabulate}

@@ -3,7 +3,6 @@ use mathlib.Core.List.{List, [], ◌∷◌}
 use mathlib.Core.Path.{◌∙◌, ◌≡◌, ap, fun_ext, subst}
 use Prim.Native.Nat.{◌*◌, ◌+◌, suc, zero, ℕ}
 use native.Mathlib.Omega.{arith}
-use lib.Dec.{T}
 use lib.ListN.{length}
 use Rattle.sums.proofs.Sum.{sum_box-add, sum_box-nil}
 use Rattle.sums.specs.Coefficient.{factorial}

@@ -3,8 +3,6 @@ use mathlib.Core.Bool.{true}
 use mathlib.Core.Path.{◌∙◌, ◌≡◌, sym}
 use Prim.Native.Nat.{◌*◌, ◌≤◌, ℕ}
 use native.Mathlib.Omega.{arith}
-use borrow.Author.Rules.{rules}
-use borrow.Author.Tests.{not-false, not-true}
 use Rattle.allowed.proofs.Limits.{products, size-limits}
 use Rattle.allowed.specs.Allowed.{size_allowed, sizes_allowed}
 use Rattle.allowed.proofs.sizes_allowed.Goals as goal

@@ -1,6 +1,5 @@
 -- A frame within limits, and the indices that a blending reaches from it.
 use Rattle.std.specs.Prelude.{◌*◌, ◌+◌, ◌-◌, ◌≤◌, ℕ}
-use Rattle.axis_order.specs.declared.Placing.{Placing}
 use Rattle.tetrahedron.specs.declared.local.LocalPlace.{LocalPlace}
 use Rattle.frame.specs.declared.Frame.{Frame}
 

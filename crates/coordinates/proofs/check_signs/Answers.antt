@@ -1,7 +1,6 @@
 -- Axis after axis, as the definition has it.
 use mathlib.Core.Bool.{false, true}
 use mathlib.Core.Path.{◌≡◌}
-use borrow.Author.Rules.{rules}
 use lib.IntN.{pos, ℤ}
 use lib.Signed.{lt_z, non_neg}
 use mir.Facts.{to_z-of_z}

@@ -2,7 +2,6 @@
 use mathlib.Core.Path.{◌≡◌}
 use Prim.Native.Nat.{◌≤◌, ℕ}
 use native.Mathlib.Omega.{arith}
-use borrow.Author.Rules.{rules}
 use lib.IntN.{◌*ℤ◌, ◌-ℤ◌, nat_abs, pos, ℤ}
 use mir.Facts.{sfits_widen, to_z-of_z, to_z_pos}
 use mir.Syntax.{w16, w32, w64}

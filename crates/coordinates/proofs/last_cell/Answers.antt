@@ -1,6 +1,5 @@
 -- Where there are no entries the difference is cut off at 0.
 use native.Mathlib.Omega.{arith}
-use borrow.Author.Rules.{rules}
 use Rattle.coordinates.proofs.last_cell.Goals as goal
 
 pub returns-then-size-eq0 : goal.returns-then-size-eq0

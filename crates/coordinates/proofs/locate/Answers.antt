@@ -3,7 +3,6 @@ use mathlib.Core.Path.{◌≡◌, refl, sym}
 use Prim.Native.Nat.{◌%◌, ◌/◌, ◌≤◌, ℕ}
 use native.Mathlib.Nat.{div-zero, mod-zero, mul-le-mul}
 use native.Mathlib.Omega.{arith}
-use borrow.Author.Rules.{rules}
 use Rattle.coordinates.proofs.Faces.{off-face, on-face}
 use Rattle.coordinates.specs.declared.Located.{Located}
 use Rattle.coordinates.proofs.locate.Goals as goal

@@ -37,7 +37,7 @@ returns-in-Stopped c =
 pub check_scale-requires : goal.check_scale-requires
 check_scale-requires c =
     let r = range (goal.at.check_scale-requires c).In_default in
-    (c.degree_of-m.ensures.1, r.some, r.few, omega arith, omega arith, c.exact_largest.ensures)
+    (c.degree_of-m.ensures.1, r.some, r.few, omega arith, omega arith, search rules)
 
 pub returns : goal.returns
 unfolding divisor_checks

@@ -1,16 +1,7 @@
 -- After i turns the table holds the powers 0 to i, and ones behind.
-use mathlib.Core.List.{List}
-use mathlib.Core.Path.{◌∙◌, ◌≡◌, ap}
-use Prim.Native.Nat.{◌+◌, ◌-◌, ◌<◌, ◌≤◌}
-use native.Mathlib.Omega.{arith}
-use lib.Ieee.{Float, binary64, mul, nan, of_bits, of_int}
-use lib.IntN.{pos}
-use lib.ListN.{length, set}
-use Rattle.sums.proofs.Fill.{fill-store, filled_at}
-use Rattle.sums.specs.Fill.{filled, tabulate}
-use Rattle.floats.proofs.FloatPowers.{length-ones, power-next, powers-first, powers-past}
-use Rattle.floats.proofs.FloatPowers.{powers-within}
-use Rattle.floats.specs.Floats.{float, float_at}
+use mathlib.Core.Path.{◌≡◌}
+use Prim.Native.Nat.{◌+◌, ◌-◌, ◌≤◌}
+use Rattle.sums.specs.Fill.{filled}
 use Rattle.floats.specs.Powers.{float_power, ones}
 use Rattle.floats.proofs.powers.Given as goal
 

@@ -1,8 +1,7 @@
 -- The six tests are those of the definition, in its order.
 use mathlib.Core.Bool.{true}
 use mathlib.Core.Path.{◌∙◌, ◌≡◌, sym}
-use borrow.Author.Rules.{rules}
-use borrow.Author.Tests.{eq-eqb, ne_eqb, not-false, not-true}
+use borrow.Author.Tests.{eq-eqb, ne_eqb}
 use Rattle.three_axes.specs.Axes.{are_axes, is_axis}
 use Rattle.three_axes.proofs.are_axes.Goals as goal
 use Rattle.three_axes.proofs.are_axes.Goals.{Else-not-is_axis, Else-not-is_axis-2, Else-not-is_axis-3}

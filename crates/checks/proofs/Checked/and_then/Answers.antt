@@ -1,5 +1,4 @@
 -- Checks that have stopped stay stopped.
-use borrow.Author.Rules.{rules}
 use Rattle.checks.proofs.Checked.and_then.Goals as goal
 
 pub returns-in-Stopped : goal.returns-in-Stopped

@@ -1,5 +1,4 @@
 -- The sum is that of the definition, of the four in their places.
-use borrow.Author.Rules.{rules}
 use Rattle.tetrahedron.proofs.group.all_zero.Goals as goal
 
 pub returns : goal.returns

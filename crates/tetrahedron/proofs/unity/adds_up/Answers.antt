@@ -1,14 +1,12 @@
 -- The first t sums have been seen to be the whole share; past degree 9 there are none to see.
 use mathlib.Core.Bool.{Bool, true}
 use mathlib.Core.Path.{◌≡◌, sym}
-use Prim.Native.Nat.{◌-◌, ◌<◌, ◌≤◌, ℕ}
+use Prim.Native.Nat.{◌<◌, ◌≤◌, ℕ}
 use native.Mathlib.Omega.{arith}
-use borrow.Author.Rules.{rules}
 use borrow.Author.Tests.{eq-eqb, lt-ltb, ne_eqb}
 use lib.Dec.{eqb}
 use Rattle.sums.proofs.Search.{all-next, all_none, all-off}
 use Rattle.sums.specs.Coefficient.{factorial}
-use Rattle.sums.specs.Fill.{number_at}
 use Rattle.sums.specs.Search.{all_to}
 use Rattle.tetrahedron.proofs.Numbers.{count-few}
 use Rattle.tetrahedron.specs.LocalPlaces.{local_places}

@@ -1,5 +1,4 @@
 -- The tests are the definition's own.
-use borrow.Author.Rules.{rules}
 use borrow.Author.Tests.{le-ltb, lt-ltb}
 use Rattle.tetrahedron.specs.LocalPlaces.{local_after}
 use Rattle.tetrahedron.proofs.local.LocalPlace.next.Goals as goal
