@@ -1,6 +1,5 @@
 -- The two tests are those of the definition, in its order; by the width the places of a row on the edge are
 -- the first ones.
-use mathlib.Core.Logic.{◌⊎◌}
 use mathlib.Core.Path.{◌≡◌}
 use Prim.Native.Nat.{◌<◌, ◌≤◌, ℕ}
 use borrow.Author.Tests.{le-ltb, lt-ltb}

@@ -25,7 +25,7 @@ use Rattle.blending.specs.Inner.Search.{window_gaps}
 use Rattle.blending.specs.Inner.Sums.{Sums, add_sums, entry_sums, sums_in}
 use Rattle.blending.specs.Inner.Window.{Within}
 use Rattle.blending.proofs.adding.add_window.Goals as goal
-use Rattle.blending.proofs.adding.add_window.Goals.{After-add_entry, After-is_gap, In-loop-at, Start}
+use Rattle.blending.proofs.adding.add_window.Goals.{After-add_entry, After-is_gap, In-loop-at}
 
 -- ---- at a turn
 

@@ -7,7 +7,7 @@ use borrow.Author.Tests.{le-ltb, lt-ltb}
 use lib.Dec.{ltb}
 use Rattle.window.specs.Positions.{position_after}
 use Rattle.window.proofs.position.Position.next.Goals as goal
-use Rattle.window.proofs.position.Position.next.Goals.{Else-self-last_of-2, Start}
+use Rattle.window.proofs.position.Position.next.Goals.{Else-self-last_of-2}
 
 below : (x e : ℕ) {last : ℕ} → last ≡ e - 1 → x < last → ltb (x + 1) e ≡ true
 below x e l h = lt-ltb (x + 1) e (omega arith)
