@@ -7,9 +7,9 @@
 
 /* The most bytes of code and constants, and of stack; torskavel.h says for which calls. */
 #define TORSKAVEL_MAX_CODE 28672
-#define TORSKAVEL_MAX_STACK 12544
+#define TORSKAVEL_MAX_STACK 12288
 #define TORSKAVEL_MAX_STACK_BUILD 2048
-#define TORSKAVEL_MAX_STACK_LOAD 256
+#define TORSKAVEL_MAX_STACK_LOAD 288
 
 /* The limits: an order's bytes; the sum of the four multiplicities, each at least 1; a net's degree and places; a block's
    size on an axis and its entries; a file's bytes, and an uncertainty in it; a point's divisor, its denominator, and its

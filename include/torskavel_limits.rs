@@ -3,11 +3,11 @@
 /// The most bytes of code and constants of the archive.
 pub const MAX_CODE: usize = 28672;
 /// The most bytes of stack that a call takes, but for what memset and memcpy take.
-pub const MAX_STACK: usize = 12544;
+pub const MAX_STACK: usize = 12288;
 /// The most bytes of stack that `build`, `inspect` and `place` take.
 pub const MAX_STACK_BUILD: usize = 2048;
 /// The most bytes of stack that `empty_unit`, `factory` and `load` take.
-pub const MAX_STACK_LOAD: usize = 256;
+pub const MAX_STACK_LOAD: usize = 288;
 
 /// The most bytes of an order.
 pub const MAX_ORDER: usize = 8;

@@ -3,7 +3,7 @@ use mathlib.Core.Bool.{Bool, cond, false, true}
 use mathlib.Core.Path.{◌∙◌, ◌≡◌, ap, refl, sym}
 use Prim.Native.Nat.{◌*◌, ◌+◌, ◌<◌, ◌≤◌, ℕ}
 use native.Mathlib.Omega.{arith}
-use borrow.Author.Tests.{lt-ltb, ltb-false, ltb-true}
+use borrow.Author.Tests.{ltb-false, ltb-true}
 use lib.Dec.{ltb}
 use Rattle.sums.specs.Search.{Found, at, nowhere}
 use Rattle.window.specs.Positions.{position, position_after}
@@ -16,15 +16,14 @@ use Rattle.blending.specs.Inner.Sums.{Sums, add_sums, no_sums, sums_to}
 -- ---- positions
 
 -- the next one, by what the tests say
-after-cases : (w : Position) (e1 e2 : ℕ) → w.z < 16 → (P : Position → Type 0)
+after-cases : (w : Position) (e1 e2 : ℕ) (P : Position → Type 0)
     → (w.x + 1 < e1 → P (position (w.x + 1) w.y w.z))
     → (e1 ≤ w.x + 1 → w.y + 1 < e2 → P (position 0 (w.y + 1) w.z))
     → (e1 ≤ w.x + 1 → e2 ≤ w.y + 1 → P (position 0 0 (w.z + 1)))
     → P (position_after w e1 e2)
 unfolding position_after
-after-cases w e1 e2 l P in_row in_layer in_window =
-    rw (lt-ltb w.z 16 l)
-    (go (ltb (w.x + 1) e1) (ltb (w.y + 1) e2) refl refl)
+after-cases w e1 e2 P in_row in_layer in_window =
+    go (ltb (w.x + 1) e1) (ltb (w.y + 1) e2) refl refl
   where
     go : (a b : Bool) → ltb (w.x + 1) e1 ≡ a → ltb (w.y + 1) e2 ≡ b
         → P (cond a (position (w.x + 1) w.y w.z)
@@ -45,19 +44,19 @@ abbrev pub passed : ℕ → ℕ → Position → ℕ
 passed e1 e2 w = w.x + e1 * (w.y + e2 * w.z)
 
 -- each step passes one
-pub passed-next : (e1 e2 : ℕ) (w : Position) → w.x < e1 → w.y < e2 → w.z < 16
+pub passed-next : (e1 e2 : ℕ) (w : Position) → w.x < e1 → w.y < e2
     → passed e1 e2 (position_after w e1 e2) ≡ passed e1 e2 w + 1
-passed-next e1 e2 w lx ly lz =
-    after-cases w e1 e2 lz (λ k. passed e1 e2 k ≡ passed e1 e2 w + 1)
+passed-next e1 e2 w lx ly =
+    after-cases w e1 e2 (λ k. passed e1 e2 k ≡ passed e1 e2 w + 1)
     (λ a. omega arith)
     (λ a b. omega arith)
     (λ a b. let h = ap (λ (k : ℕ). e1 * k) (let e : e2 ≡ w.y + 1 = omega arith in e) in omega arith)
 
 -- and reaches a position
-pub reached-next : (e1 e2 e3 : ℕ) (w : Position) → Reached e1 e2 e3 w → w.z < e3 → e3 ≤ 16
+pub reached-next : (e1 e2 e3 : ℕ) (w : Position) → Reached e1 e2 e3 w → w.z < e3
     → Reached e1 e2 e3 (position_after w e1 e2)
-reached-next e1 e2 e3 w r l most =
-    after-cases w e1 e2 (omega arith) (Reached e1 e2 e3)
+reached-next e1 e2 e3 w r l =
+    after-cases w e1 e2 (Reached e1 e2 e3)
     (λ a. record { low_x = a; low_y = r.low_y; low_z = r.low_z; end = λ e. absurd (omega arith) })
     (λ a b.
     record { low_x = omega (arith, r.low_x); low_y = b; low_z = r.low_z; end = λ e. absurd (omega arith) })
@@ -122,16 +121,16 @@ module _ (e1 e2 : ℕ) (f : ℕ → ℕ → ℕ → Sums) where
       ∙ add-empty _ (λ x. f x 0 0)
 
   -- of an entry more
-  pub so-far-next : (w : Position) → w.x < e1 → w.y < e2 → w.z < 16
+  pub so-far-next : (w : Position) → w.x < e1 → w.y < e2
       → add_sums (so_far w) (f w.x w.y w.z) ≡ so_far (position_after w e1 e2)
   unfolding so_far
-  so-far-next w lx ly lz =
+  so-far-next w lx ly =
       let rows = add_sums (sums_to w.z layer_of) (sums_to w.y (λ y. row_of y w.z)) in
       let entries : ℕ → Sums = λ x. f x w.y w.z in
       let one =
       add-assoc-sums rows (sums_to w.x entries) (entries w.x)
       ∙ ap (add_sums rows) (sums_next entries w.x refl refl) in
-      after-cases w e1 e2 lz (λ k. add_sums (so_far w) (f w.x w.y w.z) ≡ so_far k)
+      after-cases w e1 e2 (λ k. add_sums (so_far w) (f w.x w.y w.z) ≡ so_far k)
       (λ a. one)
       (λ a b.
       let ex : w.x + 1 ≡ e1 = omega arith in
@@ -172,11 +171,11 @@ module _ (e1 e2 : ℕ) (f : ℕ → ℕ → ℕ → Found) where
   none_yet = record { layers = first-of-none _; rows = first-of-none _; entries = first-of-none _ }
 
   -- after an entry where there is nothing
-  pub none-next : (w : Position) → w.x < e1 → w.y < e2 → w.z < 16 → NoneYet w
+  pub none-next : (w : Position) → w.x < e1 → w.y < e2 → NoneYet w
       → f w.x w.y w.z ≡ nowhere → NoneYet (position_after w e1 e2)
-  none-next w lx ly lz h e =
+  none-next w lx ly h e =
       let more = first-of-next (λ x. f x w.y w.z) w.x h.entries e in
-      after-cases w e1 e2 lz NoneYet
+      after-cases w e1 e2 NoneYet
       (λ a. record { layers = h.layers; rows = h.rows; entries = more })
       (λ a b.
       let ex : w.x + 1 ≡ e1 = omega arith in

@@ -94,14 +94,13 @@ module _ (net : ℕ → ℕ) (corrections : ℕ → ℤ) (uncertainties : ℕ �
         h.reached.low_y low_z h.none (rw gap refl)
 
     -- an entry that is no gap, added to the sums, makes the next turn
-    pub turn-next : f.e3 ≤ 16 → (new : ℕ → Sums) → is_gap (corrections place) ≡ false
+    pub turn-next : (new : ℕ → Sums) → is_gap (corrections place) ≡ false
         → SFits w16 (corrections place)
         → ((i : ℕ) → net i < 2 ^ 32) → ((i : ℕ) → uncertainties i < 2 ^ 16)
         → ((t : ℕ) → t < 4 * f.groups → new t ≡ add_sums (old t) (entry_sums_at w t))
         → Turn (position_after w f.e1 f.e2) new
-    turn-next most new whole fits shares spreads e =
+    turn-next new whole fits shares spreads e =
         let r = h.reached in
-        let lz : w.z < 16 = omega arith in
         let size = measured-size _ fits whole in
         let share : ℕ → ℕ = λ t. net (share_at f w.x w.y w.z + offset t) in
         let small_one : (t : ℕ) → Small 1 (entry_sums_at w t) = λ t.
@@ -109,14 +108,14 @@ module _ (net : ℕ → ℕ) (corrections : ℕ → ℤ) (uncertainties : ℕ �
         let bounded-one : (t : ℕ) → Bounded (entry_sums_at w t) = λ t.
         bounded-entry (share t) (corrections place) (uncertainties place) size (spreads place) in
         record {
-          reached = reached-next f.e1 f.e2 f.e3 w r low_z most;
+          reached = reached-next f.e1 f.e2 f.e3 w r low_z;
           added = λ t l.
               e t l
               ∙ ap (λ (s : Sums). add_sums s (entry_sums_at w t)) (h.added t l)
-              ∙ so-far-next f.e1 f.e2 _ w r.low_x r.low_y lz;
+              ∙ so-far-next f.e1 f.e2 _ w r.low_x r.low_y;
           small = λ t l.
-              rw (e t l, passed-next f.e1 f.e2 w r.low_x r.low_y lz)
+              rw (e t l, passed-next f.e1 f.e2 w r.low_x r.low_y)
               (small-add _ (h.small t l) (small_one t) (omega arith));
           bounded = λ t l. rw (e t l) (bounded-add _ _ (h.bounded t l) (bounded-one t));
-          none = none-next f.e1 f.e2 _ w r.low_x r.low_y lz h.none (rw whole refl);
+          none = none-next f.e1 f.e2 _ w r.low_x r.low_y h.none (rw whole refl);
         }

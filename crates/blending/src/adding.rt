@@ -3,7 +3,7 @@ ghost use Rattle.std.specs.Prelude.{◌≡◌, ◌*◌, ◌<◌, ◌≤◌, ℕ,
 ghost use Rattle.sums.specs.Fill.{number_at, signed_at};
 ghost use Rattle.sums.specs.Search.{nowhere};
 ghost use Rattle.tetrahedron.specs.LocalPlaces.{local_at};
-ghost use Rattle.window.specs.Window.{found_of};
+ghost use Rattle.window.specs.Window.{found_of, gap_of};
 ghost use Rattle.blending.specs.Inner.Frame.{FrameLimits, entry_at, offset_of, share_at};
 ghost use Rattle.blending.specs.Inner.Search.{window_gaps};
 ghost use Rattle.blending.specs.Inner.Sums.{Bounded, Room, no_sums, sums_in};
@@ -64,6 +64,7 @@ pub(crate) fn add_window(
         (number_at offsets.now) f × Room shares.old shifts.old spreads.old }
     requires by_index { (t : ℕ) → t < 4 * f.groups
         → sums_in shares.old shifts.old spreads.old t ≡ no_sums }
+    ensures gap { result ≡ gap_of (window_gaps (signed_at corrections.now) f) }
     ensures result_value { found_of result ≡ window_gaps (signed_at corrections.now) f }
     ensures t_after { window_gaps (signed_at corrections.now) f ≡ nowhere
         → (t : ℕ) → t < 4 * f.groups
@@ -78,7 +79,7 @@ pub(crate) fn add_window(
     let e1 = f.e1;
     let e2 = f.e2;
     let e3 = f.e3;
-    let mut at = Position::first();
+    let mut at = Position { x: 0, y: 0, z: 0 };
     while at.z < e3 {
         let entry = entry_at(f, at);
         let correction = corrections[entry];

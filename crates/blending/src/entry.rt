@@ -59,7 +59,7 @@ fn add_four(
         (sums_in shares.old shifts.old spreads.old)
         (sums_in shares.new shifts.new spreads.new) }
 {
-    if group::all_zero(four) {
+    if group::all_zero(four[0], four[1], four[2], four[3]) {
         return;
     }
     let mut i = 0;

@@ -11,8 +11,6 @@ use Rattle.unit.specs.Unit.{holds_block, holds_net, net_of}
 use Rattle.unit.specs.declared.Unit.{Unit}
 use Rattle.limits.specs.Limits.{lent_checks, unit_checks}
 use Rattle.divisor_checks.specs.Divisor.{divisor_checks, live_divisor_checks}
-use Rattle.coordinates.specs.Coordinates.{from_origin, sign_check}
-use Rattle.cell_checks.specs.Inside.{cell_check}
 use Rattle.axis_order.specs.declared.Placing.{Placing}
 use Rattle.placing.specs.Place.{inside_check, place_answer, position_checks}
 use Rattle.placing.specs.Placing.{placing}

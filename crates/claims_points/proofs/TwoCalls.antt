@@ -16,14 +16,11 @@ use Rattle.checks.specs.declared.Refusal.{Refusal}
 use Rattle.unit.specs.Unit.{net_of, sizes}
 use Rattle.unit.specs.declared.Unit.{Unit}
 use Rattle.limits.specs.Limits.{lent_checks, unit_checks}
-use Rattle.divisor_checks.specs.Divisor.{scale}
-use Rattle.axis_order.specs.declared.Placing.{Placing}
 use Rattle.placing.proofs.Placed.{refused-by}
 use Rattle.placing.specs.Place.{place_answer, position_checks}
 use Rattle.placing.specs.Placing.{placing}
 use Rattle.claims_points.proofs.Chains.{lent_slices, room}
 use Rattle.claims_points.specs.Placings.{TwoCalls, TwoRefused}
-use Rattle.blended.specs.Blend.{uncertainty_at}
 use Rattle.placing.specs.declared.PlacingAnswer.TheVariants as placings
 use Rattle.answers.proofs.Point as in-turn
 

@@ -5,9 +5,8 @@ use Rattle.window.specs.declared.position.Position.{Position}
 abbrev pub position : ℕ → ℕ → ℕ → Position
 position x y z = record { x = x; y = y; z = z }
 
--- the one after another in a window of extents e1, e2; past the 16 layers of the largest window the first
+-- the next one in the order of the block's index, in a window of extents e1, e2
 unfoldable pub position_after : Position → ℕ → ℕ → Position
 position_after at e1 e2 =
     cond (ltb (at.x + 1) e1) (position (at.x + 1) at.y at.z)
-    (cond (ltb (at.y + 1) e2) (position 0 (at.y + 1) at.z)
-    (cond (ltb at.z 16) (position 0 0 (at.z + 1)) (position 0 0 0)))
+    (cond (ltb (at.y + 1) e2) (position 0 (at.y + 1) at.z) (position 0 0 (at.z + 1)))

@@ -12,3 +12,8 @@ in_window_on E k j = leb (k + 1 - E) j && leb j k
 abbrev pub found_of : Gap → Found
 found_of Nowhere = nowhere
 found_of (At i) = at i
+
+-- and the other way round
+abbrev pub gap_of : Found → Gap
+gap_of nowhere = Nowhere
+gap_of (at i) = At i

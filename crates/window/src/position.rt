@@ -1,5 +1,5 @@
 // Where an entry stands in a window, and the next one in the order of the block's index.
-ghost use Rattle.std.specs.Prelude.{◌≡◌, ◌-◌};
+ghost use Rattle.std.specs.Prelude.{◌≡◌, ◌-◌, ◌<◌};
 ghost use Rattle.window.specs.Positions.{position, position_after};
 
 // Counted from the window's lowest entry.
@@ -27,9 +27,10 @@ impl Position {
         Position { x: 0, y: 0, z: 0 }
     }
 
-    // The next one in a window of extents e1, e2; past the 16 layers of the largest window the first.
+    // The next one in a window of extents e1, e2; past the 16 layers of the largest window the first, and
+    // nothing is promised.
     pub fn next(self, e1: usize, e2: usize) -> Self
-        ensures { result ≡ position_after self e1 e2 }
+        ensures { self.z < 16 → result ≡ position_after self e1 e2 }
     {
         if self.x < last_of(e1) {
             return Position {

@@ -2,7 +2,6 @@
 use mathlib.Core.Path.{refl}
 use Prim.Native.Nat.{◌+◌}
 use native.Mathlib.Omega.{arith}
-use borrow.Author.Rules.{rules}
 use Rattle.axis_order.proofs.Ranks.{Falling, falling}
 use Rattle.axis_order.proofs.placing_of.Goals as goal
 use Rattle.axis_order.proofs.placing_of.Goals.{After-rank-t}

@@ -8,7 +8,7 @@ use Rattle.possible.proofs.FieldTests.{placed-accepted}
 use Rattle.possible.specs.Possible.{placed_checks}
 use Rattle.blended.proofs.Answers.{fit_at, nothing_written, placed-goes-on, placed-stops}
 use Rattle.blending.proofs.blend.Goals as goal
-use Rattle.blending.proofs.blend.Goals.{In_default, Start}
+use Rattle.blending.proofs.blend.Goals.{In_default}
 
 -- the placing and what is lent have passed their checks
 module _ (c : In_default) where

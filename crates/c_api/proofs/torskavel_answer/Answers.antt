@@ -1,6 +1,5 @@
 -- `point::answer` gets the unit that the record stands for and the coordinates, and its answer is made flat.
 use mathlib.Core.Path.{◌∙◌, ap}
-use borrow.Author.Rules.{rules}
 use Rattle.placing.proofs.HandedOn.{handed-on}
 use Rattle.answers.specs.Point.{point_answer}
 use Rattle.flat.specs.Flat.{flat_point}

@@ -1,6 +1,5 @@
 -- `factory::copy` gets the unit that the record stands for, and its answer is made flat.
 use mathlib.Core.Path.{◌∙◌, ap}
-use borrow.Author.Rules.{rules}
 use lib.ListN.{length}
 use Rattle.factory.specs.Factory.{factory_answer}
 use Rattle.flat_unit.specs.Record.{flat_net}

@@ -1,6 +1,5 @@
 -- `inspection::inspect` gets the unit that the record stands for, and its answer is made flat.
 use mathlib.Core.Path.{◌∙◌, ap}
-use borrow.Author.Rules.{rules}
 use lib.ListN.{length}
 use Rattle.spline.specs.Multiplicities.{multiplicities}
 use Rattle.inspection.specs.Inspect.{inspect_answer}

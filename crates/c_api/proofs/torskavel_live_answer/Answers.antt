@@ -2,7 +2,6 @@
 -- for, and its answer is made flat.
 use mathlib.Core.Bool.{Bool}
 use mathlib.Core.Path.{◌∙◌, ap, ap₂}
-use borrow.Author.Rules.{rules}
 use Rattle.unit.specs.declared.Unit.{Unit}
 use Rattle.placing.proofs.HandedOn.{handed-on}
 use Rattle.answers.specs.Live.{live_answer}

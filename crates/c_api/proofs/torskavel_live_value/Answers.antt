@@ -2,7 +2,6 @@
 -- answer is made flat.
 use mathlib.Core.Bool.{Bool}
 use mathlib.Core.Path.{◌∙◌, ap, ap₂}
-use borrow.Author.Rules.{rules}
 use Rattle.unit.specs.declared.Unit.{Unit}
 use Rattle.answers.specs.Live.{live_valuing_answer}
 use Rattle.flat.specs.Flat.{flat_live}

@@ -1,6 +1,5 @@
 -- `field::load` gets the unit that the record stands for, and its answer is made flat.
 use mathlib.Core.Path.{◌∙◌, ap}
-use borrow.Author.Rules.{rules}
 use Rattle.field.specs.Load.{load_answer}
 use Rattle.flat_unit.specs.Record.{flat_block}
 use Rattle.c_api.proofs.torskavel_load.Goals as goal

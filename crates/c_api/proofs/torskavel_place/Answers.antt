@@ -1,6 +1,5 @@
 -- `placing::place` gets the unit that the record stands for and the coordinates, and its answer is made flat.
 use mathlib.Core.Path.{◌∙◌, ap}
-use borrow.Author.Rules.{rules}
 use Rattle.unit.specs.declared.Unit.{Unit}
 use Rattle.placing.proofs.HandedOn.{handed-on}
 use Rattle.placing.specs.Place.{place_answer}

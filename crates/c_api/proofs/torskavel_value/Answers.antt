@@ -1,6 +1,5 @@
 -- `point::value` gets the unit that the record stands for, and its answer is made flat.
 use mathlib.Core.Path.{◌∙◌, ap}
-use borrow.Author.Rules.{rules}
 use Rattle.unit.specs.declared.Unit.{Unit}
 use Rattle.answers.specs.Point.{valuing_answer}
 use Rattle.flat.specs.Flat.{flat_point}

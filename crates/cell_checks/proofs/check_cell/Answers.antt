@@ -1,7 +1,5 @@
 -- The test of the cell decides.
 use mathlib.Core.Path.{◌∙◌, sym}
-use borrow.Author.Rules.{rules}
-use borrow.Author.Tests.{not-false, not-true}
 use Rattle.cell_checks.specs.Inside.{cell_check}
 use Rattle.cell_checks.proofs.check_cell.Goals as goal
 

@@ -2,8 +2,6 @@
 use mathlib.Core.Bool.{true}
 use mathlib.Core.Path.{◌∙◌, ◌≡◌, sym}
 use Prim.Native.Nat.{◌+◌}
-use borrow.Author.Rules.{rules}
-use borrow.Author.Tests.{not-false, not-true}
 use Rattle.cell_checks.specs.Inside.{inside, inside_on}
 use Rattle.cell_checks.proofs.is_inside.Goals as goal
 use Rattle.cell_checks.proofs.is_inside.Goals.{Else-not-inside_on, Else-not-inside_on-2}

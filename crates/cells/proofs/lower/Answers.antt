@@ -1,7 +1,6 @@
 -- The test is that of the definition.
 use mathlib.Core.Path.{sym}
 use native.Mathlib.Omega.{arith}
-use borrow.Author.Rules.{rules}
 use borrow.Author.Tests.{ltb-false, ltb-true}
 use Rattle.spline.proofs.Lowering.{above-lowers, below_stays}
 use Rattle.cells.proofs.lower.Goals as goal

@@ -1,6 +1,5 @@
 -- The direction of each byte, case by case.
 use mathlib.Core.Path.{ap, sym}
-use borrow.Author.Rules.{rules}
 use Rattle.spline.specs.Place.{Direction}
 use Rattle.shape.proofs.Directions.{direction-rest}
 use Rattle.cells.specs.Coordinates.{pivot_of}

@@ -16,7 +16,7 @@ use Rattle.shape.specs.Shape.{widths}
 use Rattle.shape.specs.declared.Shape.{Shape}
 use Rattle.comparison.specs.Compare.{differs}
 use Rattle.comparison.proofs.first_differing.Goals as goal
-use Rattle.comparison.proofs.first_differing.Goals.{In-loop-x, Start}
+use Rattle.comparison.proofs.first_differing.Goals.{In-loop-x}
 
 -- in a turn: the place's index is within the box
 module _ (c : In-loop-x) where

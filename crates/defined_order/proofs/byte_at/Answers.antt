@@ -1,7 +1,6 @@
 -- The ends of the runs of 1s, 3s and 2s are those of the definition, and are compared in its order.
 use Prim.Native.Nat.{◌+◌, ◌-◌, ℕ}
 use native.Mathlib.Omega.{arith}
-use borrow.Author.Rules.{rules}
 use borrow.Author.Tests.{le-ltb, lt-ltb}
 use Rattle.shape.specs.declared.Counts.{Counts}
 use Rattle.defined_order.specs.Bytes.{defined_byte}

@@ -1,11 +1,10 @@
 -- After i turns the first i bytes of the array are those of the definition.
 use mathlib.Core.List.{List}
-use mathlib.Core.Path.{◌∙◌, ◌≡◌, ap, refl, sym}
-use Prim.Native.Nat.{◌-◌, ◌≤◌, ℕ}
+use mathlib.Core.Path.{◌∙◌, ap, refl, sym}
+use Prim.Native.Nat.{◌-◌, ℕ}
 use native.Mathlib.Nat.{le_antisymm, le_refl}
 use native.Mathlib.Omega.{arith}
-use borrow.Author.Rules.{rules}
-use lib.ListN.{length, length-set, set, take}
+use lib.ListN.{length-set, set, take}
 use lib.Seq.{take_all}
 use Rattle.sums.proofs.Fill.{fill_none, fill-store, take-filled}
 use Rattle.sums.specs.Fill.{filled}

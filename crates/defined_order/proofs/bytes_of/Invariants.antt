@@ -1,13 +1,7 @@
 -- After i turns the first i bytes of the array are those of the definition.
-use mathlib.Core.List.{List}
-use mathlib.Core.Path.{◌∙◌, ◌≡◌, ap, refl, sym}
-use Prim.Native.Nat.{◌-◌, ◌≤◌, ℕ}
-use native.Mathlib.Nat.{le_antisymm, le_refl}
-use native.Mathlib.Omega.{arith}
-use borrow.Author.Rules.{rules}
-use lib.ListN.{length, length-set, set, take}
-use lib.Seq.{take_all}
-use Rattle.sums.proofs.Fill.{fill_none, fill-store, take-filled}
+use mathlib.Core.Path.{◌≡◌}
+use Prim.Native.Nat.{◌-◌, ◌≤◌}
+use lib.ListN.{length}
 use Rattle.sums.specs.Fill.{filled}
 use Rattle.shape.specs.Shape.{counted}
 use Rattle.defined_order.specs.Bytes.{defined_byte}

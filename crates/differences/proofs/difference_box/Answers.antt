@@ -7,7 +7,6 @@ use Rattle.shape.proofs.Rows.{box-filled, layer-filled, none_filled, row-filled,
 use Rattle.shape.specs.declared.Vector.{Vector}
 use Rattle.differences.proofs.DifferenceRows.{cell-first, cell-next, cell-small}
 use Rattle.differences.proofs.difference_box.Goals as goal
-use Rattle.differences.proofs.difference_box.Goals.{Start}
 
 pub loop-z-init : goal.loop-z-init
 loop-z-init c =

@@ -12,7 +12,7 @@ use Rattle.unit.specs.Unit.{net_of}
 use Rattle.divisor_checks.proofs.Accepted.{InRange, in-range, out_of_range}
 use Rattle.divisor_checks.specs.Divisor.{divisor_checks, limit, scale}
 use Rattle.divisor_checks.proofs.check_divisor.Goals as goal
-use Rattle.divisor_checks.proofs.check_divisor.Goals.{After-degree_of-m, In_default, Start}
+use Rattle.divisor_checks.proofs.check_divisor.Goals.{After-degree_of-m, In_default}
 
 range : (c : In_default) → InRange c.args.divisor
 range c = in-range _ (sym c.check_range.ensures ∙ c.in_default.is)

@@ -2,7 +2,6 @@
 use mathlib.Core.Path.{◌∙◌, ◌≡◌, ap, ap₂, sym}
 use Prim.Native.Nat.{ℕ}
 use native.Mathlib.Omega.{arith}
-use borrow.Author.Rules.{rules}
 use lib.Dec.{ltb}
 use Rattle.spline.specs.Multiplicities.{degree}
 use Rattle.checks.specs.Checks.{and_then, refuse_if}
@@ -12,7 +11,7 @@ use Rattle.unit.specs.Unit.{net_of}
 use Rattle.divisor_checks.proofs.Accepted.{InRange, in-range, out_of_range}
 use Rattle.divisor_checks.specs.Divisor.{divisor_checks, limit, live_divisor_checks, live_limit, live_scale_check, scale}
 use Rattle.divisor_checks.proofs.check_live_divisor.Goals as goal
-use Rattle.divisor_checks.proofs.check_live_divisor.Goals.{After-degree_of-m, In_default, Start}
+use Rattle.divisor_checks.proofs.check_live_divisor.Goals.{After-degree_of-m, In_default}
 
 range : (c : In_default) → InRange c.args.divisor
 range c = in-range _ (sym c.check_range.ensures ∙ c.in_default.is)

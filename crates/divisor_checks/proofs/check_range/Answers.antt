@@ -1,5 +1,4 @@
 -- Each test is the definition's own.
-use borrow.Author.Rules.{rules}
 use borrow.Author.Tests.{eq-eqb, le-ltb, lt-ltb, ne_eqb}
 use Rattle.divisor_checks.proofs.check_range.Goals as goal
 

@@ -1,8 +1,7 @@
 -- The test is the definition's own.
 use mathlib.Core.Path.{◌∙◌, sym}
 use Prim.Native.Nat.{ℕ}
-use borrow.Author.Rules.{rules}
-use borrow.Author.Tests.{le-ltb, leb-false, leb-true, lt-ltb, not-false, not-true}
+use borrow.Author.Tests.{le-ltb, leb-false, leb-true, lt-ltb}
 use Rattle.divisor_checks.specs.Divisor.{scale}
 use Rattle.divisor_checks.proofs.check_scale.Goals as goal
 use Rattle.divisor_checks.proofs.check_scale.Goals.{Start}

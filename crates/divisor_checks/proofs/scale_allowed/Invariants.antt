@@ -1,11 +1,7 @@
 -- After i turns the product is i!×D^i and not too large.
-use mathlib.Core.Path.{◌≡◌, refl, sym}
-use Prim.Native.Nat.{◌*◌, ◌+◌, ◌-◌, ◌≤◌, ℕ}
-use native.Mathlib.Nat.{mul-le-mul, mul-le-mul_left}
-use native.Mathlib.Omega.{arith}
-use borrow.Author.Tests.{le-leb, lt-leb}
-use Rattle.divisor_checks.proofs.Scale.{scale-le, scale-next, scale-zero}
-use Rattle.divisor_checks.specs.Divisor.{limit, scale}
+use mathlib.Core.Path.{◌≡◌}
+use Prim.Native.Nat.{◌-◌, ◌≤◌}
+use Rattle.divisor_checks.specs.Divisor.{scale}
 use Rattle.divisor_checks.proofs.scale_allowed.Given as goal
 
 abbrev pub invariant-loop-i : goal.invariant-loop-i

@@ -1,7 +1,6 @@
 -- Up to degree 9 the largest divisor says it, past it the product itself.
 use mathlib.Core.Path.{sym}
 use native.Mathlib.Omega.{arith}
-use borrow.Author.Rules.{rules}
 use Rattle.divisor_checks.proofs.within.Goals as goal
 
 pub returns-then-m-le9 : goal.returns-then-m-le9

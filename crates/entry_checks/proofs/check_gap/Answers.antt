@@ -1,8 +1,6 @@
 -- Only a gap can stop the check, and only by an uncertainty.
 use mathlib.Core.Path.{◌∙◌, ◌≡◌, ap, sym}
 use native.Mathlib.Omega.{arith}
-use borrow.Author.Rules.{rules}
-use borrow.Author.Tests.{not-false, not-true}
 use mir.Facts.{to_z-of_z}
 use Rattle.sums.proofs.Search.{false-true}
 use Rattle.unit.proofs.Gaps.{certain, uncertain}

@@ -1,6 +1,5 @@
 -- The uncertainty is compared with the limit.
 use native.Mathlib.Omega.{arith}
-use borrow.Author.Rules.{rules}
 use borrow.Author.Tests.{le-ltb, lt-ltb}
 use Rattle.entry_checks.proofs.check_limit.Goals as goal
 

@@ -1,7 +1,6 @@
 -- The bits that are set of those that may not be.
 use mathlib.Core.Path.{◌∙◌, ap}
 use Prim.Native.Nat.{ℕ}
-use borrow.Author.Rules.{rules}
 use lib.Bits.{bit_and}
 use mir.Facts.{to_z-of_z}
 use Rattle.entry_checks.specs.Entry.{forbidden}

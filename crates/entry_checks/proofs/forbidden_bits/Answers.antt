@@ -1,6 +1,5 @@
 -- The two masks, by what the correction is.
 use mathlib.Core.Path.{◌∙◌, ◌≡◌, ap, sym}
-use borrow.Author.Rules.{rules}
 use mir.Facts.{to_z-of_z}
 use Rattle.unit.specs.Gaps.{is_gap}
 use Rattle.entry_checks.proofs.forbidden_bits.Goals as goal

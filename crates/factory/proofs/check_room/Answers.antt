@@ -1,7 +1,6 @@
 -- The length is compared with the places of the box.
 use mathlib.Core.Path.{◌∙◌, sym}
 use native.Mathlib.Omega.{arith}
-use borrow.Author.Rules.{rules}
 use Rattle.factory.proofs.Accepted.{factory-passes, factory-stops}
 use Rattle.factory.proofs.check_room.Goals as goal
 

@@ -1,6 +1,5 @@
 -- A refused call returns before it writes; one that has passed its check lays the table and sets the unit.
 use mathlib.Core.Path.{◌∙◌, ◌≡◌, ap, sym}
-use borrow.Author.Rules.{rules}
 use lib.ListN.{length}
 use Rattle.sums.specs.Fill.{filled}
 use Rattle.spline.specs.Box.{net_list}

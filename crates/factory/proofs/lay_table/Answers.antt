@@ -1,15 +1,13 @@
 -- After i turns the first i numbers of the slice are those of the defined net, since the table's are.
 use mathlib.Core.List.{List}
 use mathlib.Core.Path.{◌∙◌, ◌≡◌, ap, refl, sym}
-use Prim.Native.Nat.{◌+◌, ◌-◌, ◌<◌, ◌≤◌, ℕ}
+use Prim.Native.Nat.{◌+◌, ◌-◌, ◌<◌, ℕ}
 use native.Mathlib.Omega.{arith}
 use lib.ListN.{get_or, length, length-set, set}
 use Rattle.sums.proofs.Fill.{fill_none, fill-store}
 use Rattle.sums.specs.Fill.{filled}
-use Rattle.spline.specs.Box.{defined_number}
 use Rattle.factory_net.proofs.Numbers.{numbers}
 use Rattle.factory_net.proofs.TableRule.{Right, right_by}
-use Rattle.factory.specs.Factory.{factory_shape}
 use Rattle.factory.proofs.lay_table.Goals as goal
 use Rattle.factory.proofs.lay_table.Invariants.{number}
 

@@ -1,8 +1,6 @@
 -- The three tests are those of the definition, in its order.
 use mathlib.Core.Bool.{true}
 use mathlib.Core.Path.{◌∙◌, ◌≡◌, sym}
-use borrow.Author.Rules.{rules}
-use borrow.Author.Tests.{not-false, not-true}
 use Rattle.shape.specs.Shape.{held_in}
 use Rattle.fitting.specs.Fitting.{differences_fit}
 use Rattle.fitting.proofs.differences_fit.Goals as goal

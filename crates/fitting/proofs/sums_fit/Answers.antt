@@ -1,7 +1,5 @@
 -- The two tests are those of the definition, in its order.
 use mathlib.Core.Path.{◌∙◌, sym}
-use borrow.Author.Rules.{rules}
-use borrow.Author.Tests.{not-false, not-true}
 use Rattle.fitting.specs.Fitting.{sums_fit}
 use Rattle.fitting.proofs.sums_fit.Goals as goal
 

@@ -1,6 +1,5 @@
 -- Each arm makes the struct that the definition has for the variant of the answer.
 use mathlib.Core.Path.{ap, sym}
-use borrow.Author.Rules.{rules}
 use Rattle.flat.specs.Flat.{flat_placing}
 use Rattle.flat.proofs.flat_placing.Goals as goal
 

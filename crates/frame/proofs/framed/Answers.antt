@@ -1,7 +1,6 @@
 -- Each field is the definition's, once the shape is that of the unit's net.
 use mathlib.Core.Path.{◌∙◌, ap, refl}
 use native.Mathlib.Omega.{arith}
-use borrow.Author.Rules.{rules}
 use Rattle.shape.specs.Shape.{shape_of}
 use Rattle.tetrahedron.proofs.Numbers.{count-few}
 use Rattle.frame.proofs.framed.Goals as goal

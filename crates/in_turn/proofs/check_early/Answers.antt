@@ -1,6 +1,5 @@
 -- The divisor decides whether the other checks are made here.
 use mathlib.Core.Path.{◌∙◌, ◌≡◌, ap, sym}
-use borrow.Author.Rules.{rules}
 use Rattle.unit.specs.Unit.{net_of}
 use Rattle.divisor_checks.specs.Divisor.{live_divisor_checks}
 use Rattle.axis_order.specs.Weights.{weight_sum}

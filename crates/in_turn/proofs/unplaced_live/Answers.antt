@@ -1,6 +1,5 @@
 -- What is lent decides, then the divisor, and where both pass the refusal that was handed in.
 use mathlib.Core.Path.{◌∙◌, ◌≡◌, sym}
-use borrow.Author.Rules.{rules}
 use Rattle.checks.specs.declared.Checked.TheVariants.{Passed}
 use Rattle.limits.specs.Limits.{lent_checks}
 use Rattle.in_turn.specs.Unplaced.{unplaced_live}

@@ -1,6 +1,5 @@
 -- What is lent decides, and where it passes the refusal that was handed in.
 use mathlib.Core.Path.{◌∙◌, sym}
-use borrow.Author.Rules.{rules}
 use Rattle.in_turn.specs.Unplaced.{unplaced_point}
 use Rattle.in_turn.proofs.unplaced_point.Goals as goal
 

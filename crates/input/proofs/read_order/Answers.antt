@@ -1,10 +1,10 @@
 -- The order has n bytes, or the slice holds n: before turn i the numbers of the first i are stored.
 use mathlib.Core.List.{List}
-use mathlib.Core.Path.{◌∙◌, ◌≡◌, ap, refl, sym}
-use Prim.Native.Nat.{◌-◌, ◌≤◌, min, ℕ}
+use mathlib.Core.Path.{◌∙◌, ap, refl, sym}
+use Prim.Native.Nat.{◌-◌, min, ℕ}
 use native.Mathlib.Nat.{le_antisymm}
 use native.Mathlib.Omega.{arith}
-use lib.ListN.{get_or, length, length-set, set}
+use lib.ListN.{length, length-set, set}
 use Rattle.sums.proofs.Fill.{fill_none, fill-store}
 use Rattle.sums.specs.Fill.{filled}
 use Rattle.input.specs.Order.{digit_number}

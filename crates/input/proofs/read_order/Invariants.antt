@@ -1,11 +1,8 @@
 -- The order has n bytes, or the slice holds n: before turn i the numbers of the first i are stored.
 use mathlib.Core.List.{List}
-use mathlib.Core.Path.{◌∙◌, ◌≡◌, ap, refl, sym}
-use Prim.Native.Nat.{◌-◌, ◌≤◌, min, ℕ}
-use native.Mathlib.Nat.{le_antisymm}
-use native.Mathlib.Omega.{arith}
-use lib.ListN.{get_or, length, length-set, set}
-use Rattle.sums.proofs.Fill.{fill_none, fill-store}
+use mathlib.Core.Path.{◌≡◌}
+use Prim.Native.Nat.{◌-◌, ◌≤◌, ℕ}
+use lib.ListN.{get_or, length}
 use Rattle.sums.specs.Fill.{filled}
 use Rattle.input.specs.Order.{digit_number}
 use Rattle.input.proofs.read_order.Given as goal

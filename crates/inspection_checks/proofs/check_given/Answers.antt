@@ -1,8 +1,6 @@
 -- Each check stops with its refusal, in the definition's order.
 use mathlib.Core.Bool.{false, not, true}
 use mathlib.Core.Path.{◌∙◌, ◌≡◌, refl, sym}
-use borrow.Author.Rules.{rules}
-use borrow.Author.Tests.{not-false, not-true}
 use Rattle.spline.specs.Multiplicities.{Multiplicities, allowed}
 use Rattle.checks.specs.Checks.{refusal, refuse_if}
 use Rattle.checks.specs.declared.Checked.{Checked}

@@ -1,6 +1,5 @@
 -- The three lengths are compared in turn; where no test applies, all are long enough.
 use native.Mathlib.Omega.{arith}
-use borrow.Author.Rules.{rules}
 use borrow.Author.Tests.{le-ltb, lt-ltb}
 use Rattle.inspection_checks.proofs.check_room.Goals as goal
 

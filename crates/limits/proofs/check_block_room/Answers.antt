@@ -1,5 +1,4 @@
 -- A slice that is too short is told from its length; where neither test applies both are long enough.
-use borrow.Author.Rules.{rules}
 use borrow.Author.Tests.{le-ltb, lt-ltb}
 use Rattle.limits.proofs.check_block_room.Goals as goal
 

@@ -1,6 +1,5 @@
 -- The unit comes first.
 use mathlib.Core.Path.{◌∙◌, ◌≡◌, sym}
-use borrow.Author.Rules.{rules}
 use Rattle.checks.specs.declared.Checked.TheVariants.{Passed}
 use Rattle.limits.specs.Limits.{lent_checks, unit_checks}
 use Rattle.limits.proofs.check_lent.Goals as goal

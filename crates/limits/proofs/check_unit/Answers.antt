@@ -1,8 +1,6 @@
 -- Each test is the definition's own.
 use mathlib.Core.Bool.{true}
 use mathlib.Core.Path.{◌∙◌, ◌≡◌, sym}
-use borrow.Author.Rules.{rules}
-use borrow.Author.Tests.{not-false, not-true}
 use Rattle.unit.specs.Unit.{holds_block, holds_net}
 use Rattle.limits.specs.Limits.{unit_checks}
 use Rattle.limits.proofs.check_unit.Goals as goal

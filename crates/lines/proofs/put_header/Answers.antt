@@ -1,5 +1,4 @@
 -- `put_header` meets its contract: words and numbers come one after the other.
-use borrow.Author.Rules.{rules}
 use Rattle.text.proofs.Puts.{put_then}
 use Rattle.lines.specs.Lines.{header_text}
 use Rattle.lines.proofs.put_header.Goals as goal

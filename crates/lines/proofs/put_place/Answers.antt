@@ -1,5 +1,4 @@
 -- `put_place` meets its contract: nothing is put for a 0, else the place and its number.
-use borrow.Author.Rules.{rules}
 use borrow.Author.Tests.{eq-eqb, ne_eqb}
 use Rattle.text.proofs.Puts.{put-none, put_then}
 use Rattle.lines.specs.Lines.{place_text}

@@ -1,7 +1,6 @@
 -- `put_refusal` meets its contract: word and number come one after the other, of at most 19 bytes together.
 use Prim.Native.Nat.{◌<◌, ◌^◌}
 use native.Mathlib.Omega.{arith}
-use borrow.Author.Rules.{rules}
 use Rattle.text.proofs.Puts.{put_then}
 use Rattle.lines.proofs.Lengths.{refused-length}
 use Rattle.lines.specs.Lines.{refused_text}

@@ -20,7 +20,7 @@ use Rattle.listing.proofs.Printed.{printed-refused}
 use Rattle.listing.specs.Inner.Fit.{Listed}
 use Rattle.listing.specs.Print.{net_text}
 use Rattle.listing.proofs.print_order.Goals as goal
-use Rattle.listing.proofs.print_order.Goals.{After-build-answer, Start}
+use Rattle.listing.proofs.print_order.Goals.{After-build-answer}
 
 -- once the build has answered
 module _ (c : After-build-answer) where

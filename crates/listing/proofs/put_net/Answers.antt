@@ -15,7 +15,7 @@ use Rattle.lines.specs.Lines.{header_text}
 use Rattle.listing.proofs.Printed.{net-lines}
 use Rattle.listing.specs.Print.{places_text}
 use Rattle.listing.proofs.put_net.Goals as goal
-use Rattle.listing.proofs.put_net.Goals.{After-shape_of-s, Start}
+use Rattle.listing.proofs.put_net.Goals.{After-shape_of-s}
 
 -- once the shape is computed
 module _ (c : After-shape_of-s) where

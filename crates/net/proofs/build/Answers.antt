@@ -13,7 +13,7 @@ use Rattle.builds.proofs.Outcomes.{build-passed, build-refused}
 use Rattle.builds.proofs.Repeats.{all-taken, taken-length}
 use Rattle.orders.specs.Order.{build_checks}
 use Rattle.net.proofs.build.Goals as goal
-use Rattle.net.proofs.build.Goals.{In_default, Start}
+use Rattle.net.proofs.build.Goals.{In_default}
 
 -- the build has passed its checks
 module _ (c : In_default) where

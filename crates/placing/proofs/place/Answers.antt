@@ -3,7 +3,6 @@
 use mathlib.Core.Path.{◌∙◌, ◌≡◌, sym}
 use Prim.Native.Nat.{ℕ}
 use native.Mathlib.Omega.{arith}
-use borrow.Author.Rules.{rules}
 use lib.IntN.{nat_abs, ℤ}
 use Rattle.checks.specs.Checks.{passed_or}
 use Rattle.checks.specs.declared.Checked.TheVariants.{Passed}
@@ -21,7 +20,7 @@ use Rattle.placing.specs.Placing.{block_cells, block_placing, placing}
 use Rattle.placing.specs.declared.PlacingAnswer.{PlacingAnswer}
 use Rattle.placing.specs.declared.PlacingAnswer.TheVariants.{Placed, Refused}
 use Rattle.placing.proofs.place.Goals as goal
-use Rattle.placing.proofs.place.Goals.{After-check_signs, After-from_origin-c, In_default, In_default-check_divisor, In_default-check_signs, Start}
+use Rattle.placing.proofs.place.Goals.{After-check_signs, In_default, In_default-check_divisor}
 
 -- the answer by the numbers that were read
 abbrev block_answer : Unit → ℕ → ℤ → ℤ → ℤ → PlacingAnswer

@@ -1,6 +1,5 @@
 -- The point is located once on each axis, and the test of the cell and the placing go by that.
 use mathlib.Core.Path.{◌∙◌, ◌≡◌, ap, sym}
-use borrow.Author.Rules.{rules}
 use Rattle.spline.specs.Place.{on_axes}
 use Rattle.unit.specs.Unit.{net_of, sizes}
 use Rattle.coordinates.specs.Coordinates.{located}
@@ -10,7 +9,7 @@ use Rattle.placing.proofs.HandedOn.{alike}
 use Rattle.placing.specs.Placing.{block_cells}
 use Rattle.placing.specs.declared.PlacingAnswer.TheVariants.{Placed}
 use Rattle.placing.proofs.place_in_block.Goals as goal
-use Rattle.placing.proofs.place_in_block.Goals.{After-check_cell, After-locate-c, Start}
+use Rattle.placing.proofs.place_in_block.Goals.{After-check_cell, After-locate-c}
 
 -- the point is located on each axis
 module _ (c : After-locate-c) where

@@ -1,7 +1,6 @@
 -- The two tests are those of the definition.
 use mathlib.Core.Path.{ap}
 use Prim.Native.Nat.{ℕ}
-use borrow.Author.Rules.{rules}
 use borrow.Author.Tests.{eq-eqb, ne_eqb}
 use lib.Dec.{eqb}
 use Rattle.placing_fields.proofs.face_in_last.Goals as goal

@@ -1,8 +1,6 @@
 -- The three axes, in the definition's order.
 use mathlib.Core.Path.{◌∙◌, ◌≡◌, ap₂, sym}
 use Prim.Native.Nat.{ℕ}
-use borrow.Author.Rules.{rules}
-use borrow.Author.Tests.{not-false, not-true}
 use Rattle.axis_order.specs.Weights.{weight_sum}
 use Rattle.placing_fields.specs.Fields.{face_in_last, faces_in_last, remainder_on}
 use Rattle.placing_fields.proofs.faces_in_last.Goals as goal

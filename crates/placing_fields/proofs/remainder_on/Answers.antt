@@ -1,5 +1,4 @@
 -- The sum of the weights from the axis on.
-use borrow.Author.Rules.{rules}
 use borrow.Author.Tests.{eq-eqb, ne_eqb}
 use Rattle.placing_fields.specs.Fields.{remainder_on}
 use Rattle.placing_fields.proofs.remainder_on.Goals as goal

@@ -1,7 +1,5 @@
 -- The two ties, in the definition's order.
 use mathlib.Core.Path.{◌∙◌, sym}
-use borrow.Author.Rules.{rules}
-use borrow.Author.Tests.{not-false, not-true}
 use Rattle.placing_fields.specs.Fields.{ties_in_order}
 use Rattle.placing_fields.proofs.ties_in_order.Goals as goal
 

@@ -1,7 +1,6 @@
 -- A placing that is possible has a divisor within limits, whose scale is then looked at.
 use mathlib.Core.Path.{◌∙◌, ◌≡◌, ap, sym}
 use Prim.Native.Nat.{ℕ}
-use borrow.Author.Rules.{rules}
 use Rattle.checks.specs.declared.Checked.TheVariants.{Passed}
 use Rattle.unit.specs.Unit.{net_of}
 use Rattle.divisor_checks.proofs.Accepted.{divisor-passes}
@@ -9,7 +8,7 @@ use Rattle.divisor_checks.specs.Divisor.{live_divisor_checks}
 use Rattle.possible.proofs.FieldTests.{PlacingAccepted, placing-accepted}
 use Rattle.possible.specs.Possible.{live_placing_checks, placing_checks}
 use Rattle.possible.proofs.check_live_placing.Goals as goal
-use Rattle.possible.proofs.check_live_placing.Goals.{In_default, Start}
+use Rattle.possible.proofs.check_live_placing.Goals.{In_default}
 
 module _ (c : In_default) where
   passed : placing_checks c.args.unit c.args.q ≡ Passed

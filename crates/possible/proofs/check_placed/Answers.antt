@@ -1,6 +1,5 @@
 -- The two chains, in their order.
 use mathlib.Core.Path.{◌∙◌, ap₂}
-use borrow.Author.Rules.{rules}
 use Rattle.checks.specs.Checks.{and_then}
 use Rattle.possible.specs.Possible.{placed_checks}
 use Rattle.possible.proofs.check_placed.Goals as goal

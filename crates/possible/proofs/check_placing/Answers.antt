@@ -1,7 +1,5 @@
 -- The unit comes first.
 use mathlib.Core.Path.{◌∙◌, ◌≡◌, sym}
-use borrow.Author.Rules.{rules}
-use borrow.Author.Tests.{not-false, not-true}
 use Rattle.checks.specs.declared.Checked.TheVariants.{Passed}
 use Rattle.limits.specs.Limits.{unit_checks}
 use Rattle.possible.specs.Possible.{placing_checks}

@@ -1,8 +1,6 @@
 -- The five tests are those of the definition, in its order; the last is passed where L0 is not 0.
 use mathlib.Core.Bool.{true}
 use mathlib.Core.Path.{◌∙◌, ◌≡◌, ap, sym}
-use borrow.Author.Rules.{rules}
-use borrow.Author.Tests.{not-false, not-true}
 use Rattle.checks.specs.declared.Checked.TheVariants.{Passed}
 use Rattle.unit.specs.Unit.{net_of, sizes}
 use Rattle.divisor_checks.specs.Divisor.{divisor_checks}
@@ -13,7 +11,7 @@ use Rattle.placing_fields.specs.Fields.{ties_in_order}
 use Rattle.possible.proofs.FieldTests.{no-face}
 use Rattle.possible.specs.Possible.{possible}
 use Rattle.possible.proofs.is_possible.Goals as goal
-use Rattle.possible.proofs.is_possible.Goals.{After-check_divisor, Else-not-are_axes, Else-not-is_inside, Else-not-ties_in_order, In_default, Start}
+use Rattle.possible.proofs.is_possible.Goals.{After-check_divisor, Else-not-are_axes, Else-not-is_inside, Else-not-ties_in_order, In_default}
 
 axes-are : (c : Else-not-are_axes) → (let q = c.args.q in are_axes q.p q.r q.s ≡ true)
 axes-are c = sym c.are_axes.ensures ∙ c.if-not-are_axes.false

@@ -3,8 +3,6 @@ use mathlib.Core.Bool.{true}
 use mathlib.Core.Path.{◌∙◌, ◌≡◌, sym}
 use native.Mathlib.Nat.{mul-le-mul}
 use native.Mathlib.Omega.{arith}
-use borrow.Author.Rules.{rules}
-use borrow.Author.Tests.{not-false, not-true}
 use Rattle.sums.proofs.Places.{box-le}
 use Rattle.shape.proofs.Shapes.{boxed-limits}
 use Rattle.shape.specs.Shape.{boxed, held_in}

@@ -3,7 +3,6 @@ use mathlib.Core.Path.{ap}
 use Prim.Native.Nat.{◌*◌}
 use native.Mathlib.Nat.{mul-le-mul}
 use native.Mathlib.Omega.{arith}
-use borrow.Author.Rules.{rules}
 use Rattle.sums.proofs.Places.{box-le}
 use Rattle.shape.specs.declared.Shape.{Shape}
 use Rattle.shape.proofs.places_of.Goals as goal

@@ -1,7 +1,6 @@
 -- The degree is that of the multiplicities, and each width is computed of it as the definition has it.
 use mathlib.Core.Path.{◌∙◌, ap}
 use Prim.Native.Nat.{◌*◌, ◌+◌, ℕ}
-use borrow.Author.Rules.{rules}
 use Rattle.shape.proofs.Shapes.{shape-cong}
 use Rattle.shape.proofs.shape_of.Goals as goal
 

@@ -1,7 +1,6 @@
 -- `put_byte` meets its contract: there is room for the byte where its place is below the slice's length.
 use mathlib.Core.Path.{sym}
 use native.Mathlib.Omega.{arith}
-use borrow.Author.Rules.{rules}
 use lib.Seq.{set_out}
 use Rattle.text.proofs.put_byte.Goals as goal
 

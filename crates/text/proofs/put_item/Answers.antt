@@ -1,5 +1,4 @@
 -- `put_item` meets its contract: the byte is put where the number ends.
-use borrow.Author.Rules.{rules}
 use Rattle.text.proofs.Puts.{put_then}
 use Rattle.text.specs.Text.{item}
 use Rattle.text.proofs.put_item.Goals as goal

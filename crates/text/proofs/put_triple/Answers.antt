@@ -1,5 +1,4 @@
 -- `put_triple` meets its contract: the items come one after the other.
-use borrow.Author.Rules.{rules}
 use Rattle.text.proofs.Puts.{put_then}
 use Rattle.text.specs.Text.{triple}
 use Rattle.text.proofs.put_triple.Goals as goal

@@ -1,11 +1,6 @@
 -- `put_word` meets its contract: before turn j the first j bytes of the word are put.
-use mathlib.Core.List.{List}
-use mathlib.Core.Path.{subst}
-use Prim.Native.Nat.{◌-◌, ◌≤◌, ℕ}
-use native.Mathlib.Omega.{arith}
+use Prim.Native.Nat.{◌-◌, ◌≤◌}
 use lib.ListN.{length, take}
-use lib.Seq.{take_all}
-use Rattle.text.proofs.Puts.{put-length, put_next, put-none}
 use Rattle.text.specs.Put.{Put}
 use Rattle.text.proofs.put_word.Given as goal
 

@@ -1,6 +1,5 @@
 -- The remainder of the sum that is 2^32 higher has the bits of the sum.
 use mathlib.Core.Path.{◌∙◌, ap, sym}
-use borrow.Author.Rules.{rules}
 use lib.IntN.{◌+ℤ◌, pos, ℤ}
 use mir.Facts.{to_z-of_z}
 use Rattle.sums.proofs.Words.{word-up}

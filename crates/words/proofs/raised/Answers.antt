@@ -2,7 +2,6 @@
 use mathlib.Core.Path.{◌∙◌, ◌≡◌, ap, sym}
 use Prim.Native.Nat.{◌+◌, ◌-◌, ◌≤◌, suc, ℕ}
 use native.Mathlib.Omega.{arith}
-use borrow.Author.Rules.{rules}
 use lib.IntN.{◌+ℤ◌, nat_abs, negsuc, pos, ℤ}
 use lib.Signed.{mag}
 use mir.Facts.{to_z-of_z, to_z_pos}

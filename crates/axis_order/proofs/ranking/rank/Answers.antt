@@ -1,7 +1,6 @@
 -- The first two axes are in order, so axis 3 finds its place among them.
 use mathlib.Core.Path.{◌∙◌}
 use native.Mathlib.Omega.{arith}
-use borrow.Author.Rules.{rules}
 use borrow.Author.Tests.{le-leb, lt-leb}
 use Rattle.spline.specs.Place.{a1, a2, on_axes}
 use Rattle.axis_order.proofs.Ranks.{third-ranked}

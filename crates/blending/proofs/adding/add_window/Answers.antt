@@ -12,6 +12,8 @@ use Rattle.sums.specs.Fill.{number_at, signed_at}
 use Rattle.sums.specs.Search.{at}
 use Rattle.unit.specs.Gaps.{is_gap}
 use Rattle.frame.specs.declared.Frame.{Frame}
+use Rattle.window.specs.Window.{gap_of}
+use Rattle.window.specs.declared.gap.Gap.TheVariants.{At}
 use Rattle.window.specs.declared.position.Position.{Position}
 use Rattle.blending.proofs.SoFar.{passed, passed-next}
 use Rattle.blending.proofs.Steps.{kept-room}
@@ -23,7 +25,7 @@ use Rattle.blending.specs.Inner.Search.{window_gaps}
 use Rattle.blending.specs.Inner.Sums.{Sums, add_sums, entry_sums, sums_in}
 use Rattle.blending.specs.Inner.Window.{Within}
 use Rattle.blending.proofs.adding.add_window.Goals as goal
-use Rattle.blending.proofs.adding.add_window.Goals.{After-add_entry, After-is_gap, In-loop-at, Start}
+use Rattle.blending.proofs.adding.add_window.Goals.{After-add_entry, After-is_gap, In-loop-at}
 
 -- ---- at a turn
 
@@ -101,7 +103,7 @@ module _ (c : After-add_entry) where
 pub loop-at-init : goal.loop-at-init
 loop-at-init c = (
   record { of_shares = refl; of_shifts = refl; of_spreads = refl },
-  rw c.first-at.ensures (turn-first _ _ _ _ _ _ c.requires.in_window.0.limits c.requires.by_index),
+  turn-first _ _ _ _ _ _ c.requires.in_window.0.limits c.requires.by_index,
 )
 
 pub entry_at-entry-requires : goal.entry_at-entry-requires
@@ -128,6 +130,7 @@ returns-then-is_gap c =
     let hit : window_gaps (corrections turn) (frame turn) ≡ at (place turn) =
     turn-hit _ _ _ _ _ (here turn) _ c.loop-at.invariant.1 c.loop-at-test.true
     (sym (gap_is (goal.at.returns-then-is_gap c).After-is_gap) ∙ c.if-is_gap.true) in record {
+      gap = ap At c.entry_at-entry.ensures ∙ sym (ap gap_of hit);
       result_value = ap at c.entry_at-entry.ensures ∙ sym hit;
       t_after = λ n. absurd (nowhere-at (sym n ∙ hit));
       bounded = λ n. absurd (nowhere-at (sym n ∙ hit));
@@ -164,21 +167,24 @@ loop-at-smaller c =
     let w = within (goal.at.loop-at-smaller c).In-loop-at in
     let limits = c.requires.in_window.0.limits in
     let e = entries-passed f here limits w in
-    let one = passed-next f.e1 f.e2 here w.low_x w.low_y (omega (arith, w.low_z, limits.extent3)) in
-    omega (arith, ap (passed f.e1 f.e2) c.next-at.ensures, one)
+    let one = passed-next f.e1 f.e2 here w.low_x w.low_y in
+    let low_z : here.z < 16 = omega (arith, w.low_z, limits.extent3) in
+    omega (arith, ap (passed f.e1 f.e2) (c.next-at.ensures low_z), one)
 
 pub loop-at-preserved : goal.loop-at-preserved
 loop-at-preserved c =
     let places = goal.at.loop-at-preserved c in
     let inv = c.loop-at.invariant in
-    let k = c.add_entry.auto in (
+    let k = c.add_entry.auto in
+    let low_z : c.loop-at.at.z < 16 =
+    omega (arith, c.loop-at-test.true, c.requires.in_window.0.limits.extent3) in (
       record {
         of_shares = omega (arith, inv.0.of_shares);
         of_shifts = omega (arith, inv.0.of_shifts);
         of_spreads = omega (arith, inv.0.of_spreads);
       },
-      rw c.next-at.ensures
-          (turn-next _ _ _ _ _ c.loop-at.at _ inv.1 c.loop-at-test.true c.requires.in_window.0.limits.extent3
+      rw (c.next-at.ensures low_z)
+          (turn-next _ _ _ _ _ c.loop-at.at _ inv.1 c.loop-at-test.true
           _ (sym (gap_is places.After-is_gap) ∙ c.if-is_gap.false)
           (subst (λ (i : ℕ). SFits w16 (signed_at c.args.corrections.now i)) c.entry_at-entry.ensures
           (read_fits places.After-is_gap))
@@ -198,8 +204,10 @@ shape_of-spreads c = c.loop-at.invariant.0.of_spreads
 
 pub returns : goal.returns
 returns c =
-    let last = c.loop-at.invariant.1 in record {
-      result_value = sym (turn-none _ _ _ _ _ last c.loop-at-test.false);
+    let last = c.loop-at.invariant.1 in
+    let none = turn-none _ _ _ _ _ last c.loop-at-test.false in record {
+      gap = sym (ap gap_of none);
+      result_value = sym none;
       t_after = λ n. turn-sums _ _ _ _ _ last c.loop-at-test.false;
       bounded = λ n. last.bounded;
     }

@@ -1,7 +1,7 @@
 -- `Typed::len` meets its contract: `count` bytes are held, or ten where `count` is past ten.
 use mathlib.Core.Path.{◌∙◌, ◌≡◌, ap, sym}
 use Prim.Native.Nat.{min}
-use borrow.Author.Rules.{length_unmapped, rules}
+use borrow.Author.Rules.{length_unmapped}
 use lib.ListN.{length, length-take}
 use Rattle.input.proofs.Typed.len.Goals as goal
 

@@ -1,5 +1,4 @@
 -- The flag and the test of the sizes are the two of the definition.
-use borrow.Author.Rules.{rules}
 use Rattle.unit.specs.Unit.{holds_block}
 use Rattle.unit.proofs.Unit.holds_block.Goals as goal
 

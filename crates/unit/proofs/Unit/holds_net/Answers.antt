@@ -1,5 +1,4 @@
 -- The flag and the test of the multiplicities are the two of the definition.
-use borrow.Author.Rules.{rules}
 use Rattle.unit.specs.Unit.{holds_net}
 use Rattle.unit.proofs.Unit.holds_net.Goals as goal
 

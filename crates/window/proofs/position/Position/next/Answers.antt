@@ -1,14 +1,13 @@
 -- The tests are the definition's own: x < e − 1 where x + 1 < e.
 use Prim.Native.Nat.{◌+◌, ◌-◌, ◌<◌, ◌≤◌, ℕ}
 use mathlib.Core.Bool.{false, true}
-use mathlib.Core.Path.{◌∙◌, ◌≡◌}
+use mathlib.Core.Path.{◌≡◌}
 use native.Mathlib.Omega.{arith}
-use borrow.Author.Rules.{rules}
 use borrow.Author.Tests.{le-ltb, lt-ltb}
 use lib.Dec.{ltb}
 use Rattle.window.specs.Positions.{position_after}
 use Rattle.window.proofs.position.Position.next.Goals as goal
-use Rattle.window.proofs.position.Position.next.Goals.{Else-self-last_of-2, Start}
+use Rattle.window.proofs.position.Position.next.Goals.{Else-self-last_of-2}
 
 below : (x e : ℕ) {last : ℕ} → last ≡ e - 1 → x < last → ltb (x + 1) e ≡ true
 below x e l h = lt-ltb (x + 1) e (omega arith)
@@ -29,13 +28,13 @@ pub returns-then-self-last_of : goal.returns-then-self-last_of
 unfolding position_after
 returns-then-self-last_of c =
     let a = c.args in
-    simp (below a.self.x a.e1 c.last_of.ensures c.if-self-last_of.true)
+    λ _. simp (below a.self.x a.e1 c.last_of.ensures c.if-self-last_of.true)
 
 pub returns-then-self-last_of-2 : goal.returns-then-self-last_of-2
 unfolding position_after
 returns-then-self-last_of-2 c =
     let a = c.args in
-    simp (
+    λ _. simp (
       not-below a.self.x a.e1 c.last_of.ensures c.if-self-last_of.false,
       below a.self.y a.e2 c.last_of-2.ensures c.if-self-last_of-2.true,
     )
@@ -43,13 +42,9 @@ returns-then-self-last_of-2 c =
 pub returns-then-self-lt16 : goal.returns-then-self-lt16
 unfolding position_after
 returns-then-self-lt16 c =
-    simp (
-      in-row-done (goal.at.returns-then-self-lt16 c).Else-self-last_of-2,
-      in-layer-done (goal.at.returns-then-self-lt16 c).Else-self-last_of-2,
-      lt-ltb _ _ c.if-self-lt16.true,
-    )
+    let past = (goal.at.returns-then-self-lt16 c).Else-self-last_of-2 in
+    λ _. simp (in-row-done past, in-layer-done past)
 
+-- no layer follows that is within the largest window
 pub returns : goal.returns
-unfolding position_after
-returns c =
-    c.first.ensures ∙ simp (in-row-done (goal.at.returns c).Else-self-last_of-2, in-layer-done (goal.at.returns c).Else-self-last_of-2, le-ltb _ _ c.if-self-lt16.false)
+returns c = λ low. absurd (omega arith)
