@@ -86,20 +86,49 @@ origin-zero u zero x y z D =
 
 -- ---- another origin
 
+module _ (u : Unit) (d1 d2 d3 : ℤ) (x y z : ℤ) (D : ℕ) where
+  -- the moved unit and the moved point
+  abbrev there : Unit
+  there = moved_by u d1 d2 d3
+
+  abbrev x' : ℤ
+  x' = shifted x d1 D
+
+  abbrev y' : ℤ
+  y' = shifted y d2 D
+
+  abbrev z' : ℤ
+  z' = shifted z d3 D
+
+  place_moved : place_answer there x' y' z' D ≡ place_answer u x y z D
+  unfolding place_answer position_checks unit_checks holds_net holds_block
+  place_moved =
+      place-by there x' y' z' D (inside-moved u d1 d2 d3 x y z D) (placing-moved u d1 d2 d3 x y z D)
+
+  module _ (net : List ℕ) (corrections : List ℤ) (uncertainties : List ℕ) where
+    point_moved : point_answer there net corrections uncertainties x' y' z' D
+        ≡ point_answer u net corrections uncertainties x y z D
+    unfolding point_answer point_checks position_checks lent_checks unit_checks holds_net holds_block
+    point_moved =
+        point-by there x' y' z' D (inside-moved u d1 d2 d3 x y z D) (placing-moved u d1 d2 d3 x y z D) net
+        corrections uncertainties
+
+    live_moved : (flag : Bool) → live_answer there net corrections uncertainties x' y' z' D flag
+        ≡ live_answer u net corrections uncertainties x y z D flag
+    unfolding live_answer live_checks lent_checks unit_checks holds_net holds_block
+    live_moved =
+        live-by there x' y' z' D (inside-moved u d1 d2 d3 x y z D) (placing-moved u d1 d2 d3 x y z D) net
+        corrections uncertainties
+
 pub moved : Moved
-unfolding place_answer point_answer point_checks live_answer live_checks position_checks lent_checks unit_checks
-    holds_net holds_block
 moved u d1 d2 d3 x y z D =
-    let there = moved_by u d1 d2 d3 in
-    let inside = inside-moved u d1 d2 d3 x y z D in
-    let placed = placing-moved u d1 d2 d3 x y z D in (
-      place-by there (shifted x d1 D) (shifted y d2 D) (shifted z d3 D) D inside placed,
-      λ net corrections uncertainties. (
-        point-by there (shifted x d1 D) (shifted y d2 D) (shifted z d3 D) D inside placed net corrections
-            uncertainties,
-        live-by there (shifted x d1 D) (shifted y d2 D) (shifted z d3 D) D inside placed net corrections
-            uncertainties,
-      ),
+    let placed = place_moved u d1 d2 d3 x y z D in (
+      cc,
+      λ net corrections uncertainties.
+          let valued = point_moved u d1 d2 d3 x y z D net corrections uncertainties in (
+            cc,
+            λ flag. let live = live_moved u d1 d2 d3 x y z D net corrections uncertainties flag in cc,
+          ),
     )
 
 pub placing-stays : PlacingStays

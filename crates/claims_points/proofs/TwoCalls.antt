@@ -69,7 +69,7 @@ module _ (u : Unit) (net : List ℕ) (corrections : List ℤ) (uncertainties : L
 
 pub two-calls : TwoCalls
 two-calls u net corrections uncertainties x y z D q h =
-    in-turn.two-calls u net corrections uncertainties x y z D h
+    let e = in-turn.two-calls u net corrections uncertainties x y z D h in cc
 
 pub two-refused : TwoRefused
 two-refused u net corrections uncertainties x y z D r h = (
