@@ -18,46 +18,29 @@ pub const SIZE: u16 = 64;
 pub const ENTRIES: u32 = 4096;
 
 // Whether four multiplicities are within their limits.
+#[tactic(auto, unfolding(spline::specs::Multiplicities::allowed))]
 pub fn multiplicities_allowed(v1: u8, v2: u8, v3: u8, v4: u8) -> bool
     ensures { result ≡ allowed (multiplicities v1 v2 v3 v4) }
 {
-    if v1 == 0 {
-        return false;
-    }
-    if v2 == 0 {
-        return false;
-    }
-    if v3 == 0 {
-        return false;
-    }
-    if v4 == 0 {
-        return false;
-    }
-    v1 as u32 + v2 as u32 + v3 as u32 + v4 as u32 <= MULTIPLICITIES
+    let sum = v1 as u32 + v2 as u32 + v3 as u32 + v4 as u32;
+    v1 != 0 && v2 != 0 && v3 != 0 && v4 != 0 && sum <= MULTIPLICITIES
 }
 
 // Whether a size is within its limits.
+#[tactic(auto, unfolding(crate::specs::Allowed::size_allowed))]
 fn size_allowed(n: u16) -> bool
     ensures { result ≡ size_allowed n }
 {
-    if n == 0 {
-        return false;
-    }
-    n <= SIZE
+    (1..=SIZE).contains(&n)
 }
 
 // Whether three sizes, and the number of their entries, are within their limits.
+#[tactic(auto, unfolding(crate::specs::Allowed::sizes_allowed))]
 pub fn sizes_allowed(n1: u16, n2: u16, n3: u16) -> bool
     ensures { result ≡ sizes_allowed n1 n2 n3 }
 {
-    if !size_allowed(n1) {
-        return false;
-    }
-    if !size_allowed(n2) {
-        return false;
-    }
-    if !size_allowed(n3) {
-        return false;
-    }
-    n1 as u32 * n2 as u32 * n3 as u32 <= ENTRIES
+    size_allowed(n1)
+        && size_allowed(n2)
+        && size_allowed(n3)
+        && n1 as u32 * n2 as u32 * n3 as u32 <= ENTRIES
 }

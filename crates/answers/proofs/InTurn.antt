@@ -8,9 +8,6 @@ use lib.IntN.{ℤ}
 use lib.ListN.{length}
 use Rattle.sums.specs.Fill.{number_at}
 use Rattle.checks.proofs.Checks.{then-passed}
-use Rattle.checks.specs.Checks.{and_then, passed_or}
-use Rattle.checks.specs.declared.Checked.{Checked}
-use Rattle.checks.specs.declared.Checked.TheVariants.{Passed, Stopped}
 use Rattle.checks.specs.declared.Refusal.{Refusal}
 use Rattle.unit.specs.Unit.{net_of, sizes}
 use Rattle.unit.specs.declared.Unit.{Unit}
@@ -24,10 +21,10 @@ use Rattle.possible.proofs.PlacedPossible.{Placed, placed}
 use Rattle.possible.specs.Possible.{live_placing_checks}
 use Rattle.answers.specs.Bernstein.{shift_numerator, uncertainty_numerator}
 use Rattle.answers.specs.Live.{live_answer, live_checks, live_value, live_valuing_answer, live_valuing_checks}
-use Rattle.answers.specs.declared.LiveAnswer.{LiveAnswer}
-use Rattle.answers.specs.declared.LiveAnswer.TheVariants.{Refused}
 use Rattle.blended.specs.Blend.{correction_at, uncertainty_at, window_checks}
-use Rattle.placing.specs.declared.PlacingAnswer.TheVariants as placings
+use Rattle.checks.specs.Checks.{Checked, and_then, no_refusal, passed_or}
+use Rattle.std.specs.Prelude.{Err, Ok, Result}
+use Rattle.answers.specs.declared.LiveValue.{LiveValue}
 
 module _ (u : Unit) (net : List ℕ) (corrections : List ℤ) (uncertainties : List ℕ) (flag : Bool) where
   abbrev pub room : Checked
@@ -39,15 +36,16 @@ module _ (u : Unit) (net : List ℕ) (corrections : List ℤ) (uncertainties : L
   abbrev pub window : Placing → Checked
   window q = window_checks (net_of u) (sizes u) (number_at net) (correction_at (sizes u) corrections) q
 
-  abbrev pub value : Placing → LiveAnswer
+  abbrev pub value : Placing → Result LiveValue Refusal
   value q =
-      live_value flag (shift_numerator (net_of u) (number_at net) (correction_at (sizes u) corrections) q)
-      (uncertainty_numerator (net_of u) (number_at net) (uncertainty_at (sizes u) uncertainties) q)
+      Ok
+      (live_value flag (shift_numerator (net_of u) (number_at net) (correction_at (sizes u) corrections) q)
+      (uncertainty_numerator (net_of u) (number_at net) (uncertainty_at (sizes u) uncertainties) q))
 
   module _ {x y z : ℤ} {D : ℕ} {q : Placing} (p : Placed u x y z D q) where
     whole-at : live_answer u net corrections uncertainties x y z D flag
         ≡ passed_or (and_then room (and_then (live_scale_check (net_of u) D) (window (placing u x y z D))))
-        (value (placing u x y z D)) Refused
+        (value (placing u x y z D)) Err
     unfolding live_answer live_checks lent_checks live_divisor_checks position_checks
     whole-at =
         let t = then-passed (divisor_checks (net_of u) D) _ p.position-passed in
@@ -55,27 +53,27 @@ module _ (u : Unit) (net : List ℕ) (corrections : List ℤ) (uncertainties : L
 
     -- the live call looks at the slices first
     pub slices-first : live_answer u net corrections uncertainties x y z D flag
-        ≡ passed_or (and_then room (and_then (fifteen q) (window q))) (value q) Refused
+        ≡ passed_or (and_then room (and_then (fifteen q) (window q))) (value q) Err
     slices-first =
         whole-at
         ∙ ap₂ (λ (t : Placing) (d : ℕ).
-        passed_or (and_then room (and_then (live_scale_check (net_of u) d) (window t))) (value t) Refused)
+        passed_or (and_then room (and_then (live_scale_check (net_of u) d) (window t))) (value t) Err)
         (sym p.is) (sym p.divisor-is)
 
     -- the live valuing call at 15
     pub fifteen-first : live_valuing_answer u net corrections uncertainties q flag
-        ≡ passed_or (and_then (fifteen q) (and_then room (window q))) (value q) Refused
+        ≡ passed_or (and_then (fifteen q) (and_then room (window q))) (value q) Err
     unfolding live_valuing_answer live_valuing_checks live_placing_checks
     fifteen-first = rw p.placing-passed refl
 
     -- so a slice that is too short is refused where the point is placed
-    pub short-refused : {r : Refusal} → room ≡ Stopped r
-        → Refused r ≡ live_answer u net corrections uncertainties x y z D flag
+    pub short-refused : {r : Refusal} → room ≡ Err r
+        → Err r ≡ live_answer u net corrections uncertainties x y z D flag
     short-refused e = sym (slices-first ∙ rw e refl)
 
   -- where the slices are long enough, both answer the same
-  pub in-turn : (x y z : ℤ) (D : ℕ) {q : Placing} → room ≡ Passed
-      → place_answer u x y z D ≡ placings.Placed q
+  pub in-turn : (x y z : ℤ) (D : ℕ) {q : Placing} → room ≡ no_refusal
+      → place_answer u x y z D ≡ Ok q
       → live_answer u net corrections uncertainties x y z D flag
       ≡ live_valuing_answer u net corrections uncertainties q flag
   in-turn x y z D e h =

@@ -8,9 +8,6 @@ use lib.ListN.{length}
 use Rattle.sums.specs.Fill.{number_at}
 use Rattle.spline.specs.Multiplicities.{degree}
 use Rattle.checks.proofs.Checks.{then-passed}
-use Rattle.checks.specs.Checks.{and_then}
-use Rattle.checks.specs.declared.Checked.{Checked}
-use Rattle.checks.specs.declared.Checked.TheVariants.{Passed, Stopped}
 use Rattle.checks.specs.declared.Refusal.{Refusal}
 use Rattle.unit.specs.Unit.{net_of, sizes}
 use Rattle.unit.specs.declared.Unit.{Unit}
@@ -26,10 +23,11 @@ use Rattle.possible.specs.Possible.{live_placing_checks, placed_checks, placing_
 use Rattle.floats.specs.Floats.{float}
 use Rattle.answers.specs.Bernstein.{shift_numerator, uncertainty_numerator}
 use Rattle.answers.specs.Live.{live_answer, live_checks, live_value, live_valuing_answer, live_valuing_checks}
-use Rattle.answers.specs.declared.LiveAnswer.{LiveAnswer}
-use Rattle.answers.specs.declared.LiveAnswer.TheVariants.{Both, Refused, Shift}
 use Rattle.blended.specs.Blend.{blend_checks, correction_at, uncertainty_at}
-use Rattle.placing.specs.declared.PlacingAnswer.TheVariants as placings
+use Rattle.checks.specs.Checks.{Checked, and_then, no_refusal}
+use Rattle.std.specs.Prelude.{Err, Ok, Result}
+use Rattle.answers.specs.declared.LiveValue.{LiveValue}
+use Rattle.answers.specs.declared.LiveValue.TheVariants.{Both, Shift}
 
 -- ---- the flag
 
@@ -45,16 +43,16 @@ switched-off N U e = rw e refl
 -- ---- at a placing
 
 -- a check that has passed is none
-none_between : (a b c : Checked) → and_then (and_then a Passed) (and_then b c) ≡ and_then (and_then a b) c
-none_between Passed b c = refl
-none_between (Stopped r) b c = refl
+none_between : (a b c : Checked) → and_then (and_then a no_refusal) (and_then b c) ≡ and_then (and_then a b) c
+none_between (Ok _) b c = refl
+none_between (Err r) b c = refl
 
 module _ (u : Unit) (net : List ℕ) (corrections : List ℤ) (uncertainties : List ℕ) (q : Placing)
     (with_uncertainty : Bool) where
-  abbrev valued : LiveAnswer
+  abbrev valued : Result LiveValue Refusal
   valued = live_valuing_answer u net corrections uncertainties q with_uncertainty
 
-  module _ (f : live_scale_check (net_of u) (weight_sum q) ≡ Passed) where
+  module _ (f : live_scale_check (net_of u) (weight_sum q) ≡ no_refusal) where
     -- so m!×D^m is within the limit of a live call
     pub placed-within : scale (degree (net_of u)) (weight_sum q) ≤ live_limit
     placed-within = live-accepted (net_of u) (weight_sum q) f
@@ -69,16 +67,16 @@ module _ (u : Unit) (net : List ℕ) (corrections : List ℤ) (uncertainties : L
         (room_checks u (length net) (length corrections) (length uncertainties)) _)
 
     -- so what it refuses is refused
-    pub value-refused : {r : Refusal} → blend_checks u net corrections uncertainties q ≡ Stopped r
-        → Refused r ≡ valued
+    pub value-refused : {r : Refusal} → blend_checks u net corrections uncertainties q ≡ Err r
+        → Err r ≡ valued
     unfolding live_valuing_answer
     value-refused k = rw (value-checks-left, k) refl
 
     -- and one that passed is answered with N and U
-    pub value-answered : blend_checks u net corrections uncertainties q ≡ Passed
-        → live_value with_uncertainty
+    pub value-answered : blend_checks u net corrections uncertainties q ≡ no_refusal
+        → Ok (live_value with_uncertainty
         (shift_numerator (net_of u) (number_at net) (correction_at (sizes u) corrections) q)
-        (uncertainty_numerator (net_of u) (number_at net) (uncertainty_at (sizes u) uncertainties) q)
+        (uncertainty_numerator (net_of u) (number_at net) (uncertainty_at (sizes u) uncertainties) q))
         ≡ valued
     unfolding live_valuing_answer
     value-answered k = rw (value-checks-left, k) refl
@@ -87,33 +85,33 @@ module _ (u : Unit) (net : List ℕ) (corrections : List ℤ) (uncertainties : L
 
 module _ (u : Unit) (net : List ℕ) (corrections : List ℤ) (uncertainties : List ℕ) (x y z : ℤ) (D : ℕ)
     (with_uncertainty : Bool) where
-  abbrev answer : LiveAnswer
+  abbrev answer : Result LiveValue Refusal
   answer = live_answer u net corrections uncertainties x y z D with_uncertainty
 
   abbrev lent : Checked
   lent = lent_checks u (length net) (length corrections) (length uncertainties)
 
   -- what is lent is looked at first
-  pub lent-refused : {r : Refusal} → lent ≡ Stopped r → Refused r ≡ answer
+  pub lent-refused : {r : Refusal} → lent ≡ Err r → Err r ≡ answer
   unfolding live_answer live_checks
   lent-refused h = rw h refl
 
   -- then the divisor
-  pub divisor-refused : {r : Refusal} → lent ≡ Passed → live_divisor_checks (net_of u) D ≡ Stopped r
-      → Refused r ≡ answer
+  pub divisor-refused : {r : Refusal} → lent ≡ no_refusal → live_divisor_checks (net_of u) D ≡ Err r
+      → Err r ≡ answer
   unfolding live_answer live_checks
   divisor-refused l h = rw (l, h) refl
 
-  module _ (l : lent ≡ Passed) (d : live_divisor_checks (net_of u) D ≡ Passed) where
+  module _ (l : lent ≡ no_refusal) (d : live_divisor_checks (net_of u) D ≡ no_refusal) where
     -- 10 and 11 have passed, and 15
-    divisor-passed : (divisor_checks (net_of u) D ≡ Passed) × (live_scale_check (net_of u) D ≡ Passed)
+    divisor-passed : (divisor_checks (net_of u) D ≡ no_refusal) × (live_scale_check (net_of u) D ≡ no_refusal)
     unfolding live_divisor_checks
     divisor-passed = then-passed (divisor_checks (net_of u) D) (live_scale_check (net_of u) D) d
 
     -- past it, what the placing call refuses is refused
-    pub place-stops : {r : Refusal} → place_answer u x y z D ≡ placings.Refused r → Refused r ≡ answer
+    pub place-stops : {r : Refusal} → place_answer u x y z D ≡ Err r → Err r ≡ answer
     unfolding live_answer live_checks position_checks
     place-stops {r} h =
-        let outside : inside_check u x y z D ≡ Stopped r
+        let outside : inside_check u x y z D ≡ Err r
         = rw divisor-passed.0 at (place-refused u x y z D (unit-passed u _ _ _ l) h) in
         rw (l, d, outside) refl

@@ -1,10 +1,8 @@
 -- What a point call and a valuing call answer, by their checks in their order (21, 22, 4, 9, 10, 11, 12, 13,
 -- 23; 21, 22, 17, 4, 9, 13, 23): Sections 11.4 and 11.11.
-use Rattle.std.specs.Prelude.{List, ℕ, ℤ, length}
+use Rattle.std.specs.Prelude.{Err, List, Ok, Result, length, ℕ, ℤ}
 use Rattle.sums.specs.Fill.{number_at}
 use Rattle.spline.specs.Multiplicities.{degree}
-use Rattle.checks.specs.Checks.{and_then, passed_or}
-use Rattle.checks.specs.declared.Checked.{Checked}
 use Rattle.unit.specs.Unit.{net_of, sizes}
 use Rattle.unit.specs.declared.Unit.{Unit}
 use Rattle.limits.specs.Limits.{lent_checks}
@@ -15,9 +13,9 @@ use Rattle.placing.specs.Place.{position_checks}
 use Rattle.placing.specs.Placing.{placing}
 use Rattle.answers.specs.Bernstein.{shift_numerator, uncertainty_numerator}
 use Rattle.answers.specs.declared.Fraction.{Fraction}
-use Rattle.answers.specs.declared.PointAnswer.{PointAnswer}
-use Rattle.answers.specs.declared.PointAnswer.TheVariants.{Refused, Value}
 use Rattle.blended.specs.Blend.{blend_checks, correction_at, uncertainty_at, window_checks}
+use Rattle.checks.specs.Checks.{Checked, and_then, passed_or}
+use Rattle.checks.specs.declared.Refusal.{Refusal}
 
 module _ (u : Unit) (net : List ℕ) (corrections : List ℤ) (uncertainties : List ℕ) where
   -- Section 11.3: the fraction at a placing over D
@@ -37,10 +35,10 @@ module _ (u : Unit) (net : List ℕ) (corrections : List ℤ) (uncertainties : L
       (placing u x y z D)))
 
   -- Section 11.4: the answer
-  unfoldable pub point_answer : ℤ → ℤ → ℤ → ℕ → PointAnswer
-  point_answer x y z D = passed_or (point_checks x y z D) (Value (fraction_at (placing u x y z D) D)) Refused
+  unfoldable pub point_answer : ℤ → ℤ → ℤ → ℕ → Result Fraction Refusal
+  point_answer x y z D = passed_or (point_checks x y z D) (Ok (fraction_at (placing u x y z D) D)) Err
 
   -- Section 11.11: the answer at a placing
-  unfoldable pub valuing_answer : Placing → PointAnswer
+  unfoldable pub valuing_answer : Placing → Result Fraction Refusal
   valuing_answer q =
-      passed_or (blend_checks u net corrections uncertainties q) (Value (fraction_at q (weight_sum q))) Refused
+      passed_or (blend_checks u net corrections uncertainties q) (Ok (fraction_at q (weight_sum q))) Err

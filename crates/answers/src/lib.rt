@@ -2,21 +2,12 @@
 // specs/ (Section 11), and laws on placing and valuing in turn. No functions.
 #![tactic(auto)]
 
-use checks::Refusal;
-
 // The exact fraction of an answered point: N and U over m!×D^m, unreduced.
 #[derive(Clone, Copy)]
 pub struct Fraction {
     pub numerator: i64,
     pub uncertainty: u64,
     pub denominator: u64,
-}
-
-// What a point call or a valuing call answers.
-#[derive(Clone, Copy)]
-pub enum PointAnswer {
-    Value(Fraction),
-    Refused(Refusal),
 }
 
 // N and U of an answered point as 64-bit floats.
@@ -26,11 +17,9 @@ pub struct Floats {
     pub uncertainty: f64,
 }
 
-// What a live call or a live valuing call answers: both floats, or N alone where the uncertainty is switched
-// off.
+// What a live call answers a point with: both floats, or N alone where the uncertainty is switched off.
 #[derive(Clone, Copy)]
-pub enum LiveAnswer {
+pub enum LiveValue {
     Both(Floats),
     Shift(f64),
-    Refused(Refusal),
 }

@@ -1,7 +1,7 @@
 // The placing of a point that is located on each axis: axis order and weights. Sections 9.3 and 9.4.
 #![tactic(auto)]
 
-ghost use Rattle.std.specs.Prelude.{◌≡◌, ◌-◌};
+ghost use Rattle.std.specs.Prelude.{◌≡◌};
 ghost use Rattle.axis_order.specs.Weights.{placing_on, weight_sum};
 
 use coordinates::Located;
@@ -34,16 +34,6 @@ impl Placing {
     }
 }
 
-// What is left of a divisor beside the largest remainder; 0 where this is not below it.
-fn rest(divisor: u32, remainder: u32) -> u32
-    ensures { result ≡ divisor - remainder }
-{
-    if divisor < remainder {
-        return 0;
-    }
-    divisor - remainder
-}
-
 // The placing of a point, located on each axis.
 pub fn placing_of(x: Located, y: Located, z: Located, divisor: u32) -> Placing
     ensures { result ≡ placing_on x y z divisor }
@@ -56,7 +46,7 @@ pub fn placing_of(x: Located, y: Located, z: Located, divisor: u32) -> Placing
         p: t.p,
         r: t.r,
         s: t.s,
-        l0: rest(divisor, t.up),
+        l0: divisor.saturating_sub(t.up),
         l1: t.up - t.ur,
         l2: t.ur - t.us,
         l3: t.us,

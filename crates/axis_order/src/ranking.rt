@@ -14,36 +14,37 @@ pub(crate) struct Ranking {
 }
 
 // Axis 3 among two axes in order, a first, each given by its number and its remainder.
+#[tactic(auto, unfolding(crate::specs::Inner::Ranking::third_among))]
 fn with_third(a: u8, ua: u32, b: u8, ub: u32, u3: u32) -> Ranking
     ensures { result ≡ third_among a ua b ub u3 }
 {
     if u3 <= ub {
-        return Ranking {
+        Ranking {
             p: a,
             r: b,
             s: 3,
             up: ua,
             ur: ub,
             us: u3,
-        };
-    }
-    if u3 <= ua {
-        return Ranking {
+        }
+    } else if u3 <= ua {
+        Ranking {
             p: a,
             r: 3,
             s: b,
             up: ua,
             ur: u3,
             us: ub,
-        };
-    }
-    Ranking {
-        p: 3,
-        r: a,
-        s: b,
-        up: u3,
-        ur: ua,
-        us: ub,
+        }
+    } else {
+        Ranking {
+            p: 3,
+            r: a,
+            s: b,
+            up: u3,
+            ur: ua,
+            us: ub,
+        }
     }
 }
 
@@ -52,7 +53,8 @@ pub(crate) fn rank(u1: u32, u2: u32, u3: u32) -> Ranking
     ensures { result ≡ ranked u1 u2 u3 }
 {
     if u2 <= u1 {
-        return with_third(1, u1, 2, u2, u3);
+        with_third(1, u1, 2, u2, u3)
+    } else {
+        with_third(2, u2, 1, u1, u3)
     }
-    with_third(2, u2, 1, u1, u3)
 }

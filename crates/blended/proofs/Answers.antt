@@ -10,9 +10,6 @@ use Rattle.sums.specs.Search.{Found, at, nowhere}
 use Rattle.spline.specs.Multiplicities.{Multiplicities, degree}
 use Rattle.spline.specs.Place.{Axis}
 use Rattle.checks.proofs.Checks.{stopped-passed}
-use Rattle.checks.specs.Checks.{refusal, refuse_at}
-use Rattle.checks.specs.declared.Checked.{Checked}
-use Rattle.checks.specs.declared.Checked.TheVariants.{Passed, Stopped}
 use Rattle.checks.specs.declared.Refusal.{Refusal}
 use Rattle.unit.specs.Unit.{net_of, sizes}
 use Rattle.unit.specs.declared.Unit.{Unit}
@@ -30,6 +27,9 @@ use Rattle.blended.specs.Blend.{blend_checks, correction_at, window_checks, writ
 use Rattle.blended.specs.Blending.{adds_up}
 use Rattle.blended.specs.Gaps.{first_gap}
 use Rattle.blended.specs.Inner.Fit.{Fit}
+use Rattle.checks.specs.Checks.{Checked, no_refusal, refuse_at}
+use Rattle.std.specs.Prelude.{Err}
+use Rattle.checks.specs.declared.Refusal.TheVariants.{UnevenShares, WindowGap}
 
 module _ (u : Unit) (net_length corrections_length uncertainties_length : ℕ) where
   -- a placing in a cell that is inside can be blended
@@ -58,20 +58,20 @@ module _ (u : Unit) (net_length corrections_length uncertainties_length : ℕ) w
 module _ (v : Multiplicities) (n : Axis → ℕ) (net : ℕ → ℕ) (corrections : ℕ → ℕ → ℕ → ℤ) (q : Placing) where
   -- a gap is 13 with its index
   pub window-stopped : (found : Found) {r : Refusal} → first_gap v n corrections (placing_cell q) ≡ found
-      → refuse_at 13 found Passed ≡ Stopped r → window_checks v n net corrections q ≡ Stopped r
+      → refuse_at WindowGap found no_refusal ≡ Err r → window_checks v n net corrections q ≡ Err r
   unfolding window_checks
   window-stopped nowhere e h = stopped-passed _ (sym h)
   window-stopped (at i) e h = rw e h
 
   -- with no gap, shares that do not add up are 23
   pub window-uneven : first_gap v n corrections (placing_cell q) ≡ nowhere → adds_up v net q ≡ false
-      → window_checks v n net corrections q ≡ Stopped (refusal 23 0)
+      → window_checks v n net corrections q ≡ Err UnevenShares
   unfolding window_checks
   window-uneven e a = rw (e, a) refl
 
   -- and shares that add up pass
   pub window-passed : first_gap v n corrections (placing_cell q) ≡ nowhere → adds_up v net q ≡ true
-      → window_checks v n net corrections q ≡ Passed
+      → window_checks v n net corrections q ≡ no_refusal
   unfolding window_checks
   window-passed e a = rw (e, a) refl
 
@@ -79,12 +79,12 @@ module _ (v : Multiplicities) (n : Axis → ℕ) (net : ℕ → ℕ) (correction
 
 module _ {A : Type 0} {k : Checked} (f : ℕ → A) (u : Unit) (d : List A) where
   -- nothing where a check has refused
-  pub nothing_written : {r : Refusal} → k ≡ Stopped r → d ≡ written_if k f u d
+  pub nothing_written : {r : Refusal} → k ≡ Err r → d ≡ written_if k f u d
   unfolding written_if
   nothing_written e = rw e refl
 
   -- every local place's number where all have passed
-  pub all-written : k ≡ Passed → written_if k f u d ≡ filled f (local_places (degree (net_of u))) d
+  pub all-written : k ≡ no_refusal → written_if k f u d ≡ filled f (local_places (degree (net_of u))) d
   unfolding written_if
   all-written e = rw e refl
 
@@ -95,13 +95,13 @@ module _ (u : Unit) (net : List ℕ) (corrections : List ℤ) (uncertainties : L
   placed-checks = placed_checks u q (length net) (length corrections) (length uncertainties)
 
   -- a refusal for the placing or for what is lent comes first
-  pub placed-stops : {r : Refusal} → placed-checks ≡ Stopped r
-      → Stopped r ≡ blend_checks u net corrections uncertainties q
+  pub placed-stops : {r : Refusal} → placed-checks ≡ Err r
+      → Err r ≡ blend_checks u net corrections uncertainties q
   unfolding blend_checks
   placed-stops e = rw e refl
 
   -- else the window decides
-  pub placed-goes-on : placed-checks ≡ Passed
+  pub placed-goes-on : placed-checks ≡ no_refusal
       → window_checks (net_of u) (sizes u) (number_at net) (correction_at (sizes u) corrections) q
       ≡ blend_checks u net corrections uncertainties q
   unfolding blend_checks

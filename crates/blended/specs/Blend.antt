@@ -6,9 +6,6 @@ use Rattle.sums.specs.Fill.{filled, number_at, signed_at}
 use Rattle.spline.specs.Box.{index}
 use Rattle.spline.specs.Multiplicities.{Multiplicities, degree}
 use Rattle.spline.specs.Place.{Axis}
-use Rattle.checks.specs.Checks.{and_then, passed_or, refuse_at, refuse_if}
-use Rattle.checks.specs.declared.Checked.{Checked}
-use Rattle.checks.specs.declared.Checked.TheVariants.{Passed}
 use Rattle.unit.specs.Unit.{net_of, sizes}
 use Rattle.unit.specs.declared.Unit.{Unit}
 use Rattle.axis_order.specs.Weights.{placing_cell}
@@ -18,6 +15,8 @@ use Rattle.tetrahedron.specs.LocalPlaces.{local_at, local_places}
 use Rattle.tetrahedron.specs.declared.local.LocalPlace.{LocalPlace}
 use Rattle.blended.specs.Blending.{adds_up, blended_correction, blended_uncertainty, local_place}
 use Rattle.blended.specs.Gaps.{first_gap}
+use Rattle.checks.specs.Checks.{Checked, and_then, no_refusal, passed_or, refuse_at, refuse_if}
+use Rattle.checks.specs.declared.Refusal.TheVariants.{UnevenShares, WindowGap}
 
 -- ---- lent lists
 
@@ -33,8 +32,8 @@ uncertainty_at n l j1 j2 j3 = number_at l (index n j1 j2 j3)
 -- Sections 10.5 and 10.6: 13 for a gap in the window, with its lowest index; 23 for shares that do not add up
 unfoldable pub window_checks : Multiplicities → (Axis → ℕ) → (ℕ → ℕ) → (ℕ → ℕ → ℕ → ℤ) → Placing → Checked
 window_checks v n net corrections q =
-    refuse_at 13 (first_gap v n corrections (placing_cell q))
-    (refuse_if 23 (not (adds_up v net q)) Passed)
+    refuse_at WindowGap (first_gap v n corrections (placing_cell q))
+    (refuse_if UnevenShares (not (adds_up v net q)) no_refusal)
 
 -- Section 10.7: all checks in their order
 unfoldable pub blend_checks : Unit → List ℕ → List ℤ → List ℕ → Placing → Checked

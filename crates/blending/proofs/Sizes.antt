@@ -11,7 +11,6 @@ use Rattle.sums.proofs.Search.{all-at, all-cong}
 use Rattle.sums.specs.Coefficient.{factorial}
 use Rattle.sums.specs.Fill.{filled, number_at}
 use Rattle.spline.specs.Multiplicities.{degree}
-use Rattle.checks.specs.declared.Checked.TheVariants.{Passed}
 use Rattle.unit.specs.Unit.{net_of}
 use Rattle.unit.specs.declared.Unit.{Unit}
 use Rattle.axis_order.specs.declared.Placing.{Placing}
@@ -23,6 +22,7 @@ use Rattle.frame.specs.Frames.{frame_of}
 use Rattle.frame.specs.declared.Frame.{Frame}
 use Rattle.blended.specs.Blend.{Sized, blended_correction_at, blended_uncertainty_at, local_of, written_if}
 use Rattle.blended.specs.Blending.{adds_up, share_sum}
+use Rattle.checks.specs.Checks.{no_refusal}
 
 module _ (u : Unit) (q : Placing) (net : List ℕ) (corrections : List ℤ) (uncertainties : List ℕ) where
   -- the sums at the local place with number t, by the definitions
@@ -70,7 +70,7 @@ module _ (u : Unit) (q : Placing) (net : List ℕ) (corrections : List ℤ) (unc
 -- numbers that are the values at each local place fill an array as passed checks have it
 pub written-by : {A : Type 0} (u : Unit) (q : Placing) (f : Frame) (now value : ℕ → A) (old : List A)
     → f ≡ frame_of u q → ((t : ℕ) → t < f.count → now t ≡ value t)
-    → filled now f.count old ≡ written_if Passed value u old
+    → filled now f.count old ≡ written_if no_refusal value u old
 unfolding written_if
 written-by u q f now value old e are =
     filled-cong _ _ f.count _ are

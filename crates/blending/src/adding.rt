@@ -12,7 +12,6 @@ ghost use Rattle.blending.specs.Inner.Window.{InWindow, Within, window_sums};
 use crate::entry;
 use frame::Frame;
 use tetrahedron::local::LocalPlace;
-use window::gap::Gap;
 use window::position::Position;
 
 // The index of an entry in the block.
@@ -37,14 +36,11 @@ pub(crate) fn offsets_of(f: Frame) -> [usize; 220]
     ensures { ((t : ℕ) → t < f.count → number_at result t ≡ offset_of f (local_at t))
         × ((t : ℕ) → f.count ≤ t → t < 220 → number_at result t ≡ 0) }
 {
-    let count = f.count;
     let mut offsets = [0usize; 220];
     let mut l = LocalPlace::first();
-    let mut t = 0;
-    while t < count {
+    for t in 0..f.count {
         offsets[t] = f.s1 * l.p + f.s2 * l.r + f.s3 * l.s;
         l = l.next();
-        t += 1;
     }
     offsets
 }
@@ -59,7 +55,7 @@ pub(crate) fn add_window(
     shares: &mut [u64],
     shifts: &mut [i64],
     spreads: &mut [u64],
-) -> Gap
+) -> Option<usize>
     requires in_window { InWindow (length net.now) (length corrections.now) (length uncertainties.now)
         (number_at offsets.now) f × Room shares.old shifts.old spreads.old }
     requires by_index { (t : ℕ) → t < 4 * f.groups
@@ -84,7 +80,7 @@ pub(crate) fn add_window(
         let entry = entry_at(f, at);
         let correction = corrections[entry];
         if unit::is_gap(correction) {
-            return Gap::At(entry);
+            return Some(entry);
         }
         entry::add_entry(
             net,
@@ -99,5 +95,5 @@ pub(crate) fn add_window(
         );
         at = at.next(e1, e2);
     }
-    Gap::Nowhere
+    None
 }

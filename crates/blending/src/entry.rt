@@ -23,9 +23,9 @@ fn add_share(
         (sums_in shares.old shifts.old spreads.old)
         (sums_in shares.new shifts.new spreads.new) }
 {
-    shares[t] = shares[t] + share as u64;
-    shifts[t] = shifts[t] + correction as i64 * share as i64;
-    spreads[t] = spreads[t] + share as u64 * uncertainty as u64;
+    shares[t] += share as u64;
+    shifts[t] += correction as i64 * share as i64;
+    spreads[t] += share as u64 * uncertainty as u64;
 }
 
 // An entry's shares at four local places from number t on; its first share stands at an index of the net.
@@ -35,10 +35,8 @@ fn four_at(net: &[u32], offsets: &[usize; 220], share: usize, t: usize) -> [u32;
         → number_at result i ≡ number_at net.now (share + number_at offsets.now (t + i)) }
 {
     let mut four = [0u32; 4];
-    let mut i = 0;
-    while i < 4 {
+    for i in 0..4 {
         four[i] = net[share + offsets[t + i]];
-        i += 1;
     }
     four
 }
@@ -62,8 +60,7 @@ fn add_four(
     if group::all_zero(four[0], four[1], four[2], four[3]) {
         return;
     }
-    let mut i = 0;
-    while i < 4 {
+    for i in 0..4 {
         add_share(
             t + i,
             four[i],
@@ -73,7 +70,6 @@ fn add_four(
             shifts,
             spreads,
         );
-        i += 1;
     }
 }
 
@@ -97,11 +93,9 @@ pub(crate) fn add_entry(
         (entry_sums (number_at net.now (share + number_at offsets.now t))
         correction uncertainty) }
 {
-    let mut g = 0;
-    while g < groups {
+    for g in 0..groups {
         let t = 4 * g;
         let four = four_at(net, offsets, share, t);
         add_four(t, four, correction, uncertainty, shares, shifts, spreads);
-        g += 1;
     }
 }

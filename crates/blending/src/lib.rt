@@ -3,8 +3,8 @@
 #![tactic(auto)]
 
 ghost use Rattle.std.specs.Prelude.{◌≡◌, ◌≤◌, length};
+ghost use Rattle.checks.specs.Checks.{no_refusal};
 ghost use Rattle.sums.specs.Fill.{filled, number_at, signed_at};
-ghost use Rattle.checks.specs.declared.Checked.TheVariants.{Passed};
 ghost use Rattle.unit.specs.Unit.{net_of, sizes};
 ghost use Rattle.axis_order.specs.declared.Placing.{Placing};
 ghost use Rattle.blended.specs.Blend.{Sized, blend_checks, blended_correction_at, blended_uncertainty_at};
@@ -12,12 +12,15 @@ ghost use Rattle.blended.specs.Blend.{correction_at, window_checks, written_if};
 ghost use Rattle.blended.specs.Inner.Fit.{Fit};
 
 use axis_order::Placing;
-use checks::Checked;
+use checks::Refusal;
+use lent::Lent;
 use tetrahedron::unity;
 use unit::Unit;
+use window::gap;
 
 mod adding;
 mod entry;
+pub mod lent;
 
 // Writes the first of the blended corrections and uncertainties to the caller's arrays.
 fn hand_over(
@@ -33,63 +36,54 @@ fn hand_over(
     ensures spreads_after { spreads.new
         ≡ filled (number_at uncertainties.now) count spreads.old }
 {
-    let mut t = 0;
-    while t < count {
-        shifts[t] = corrections[t];
-        spreads[t] = uncertainties[t];
-        t += 1;
-    }
+    shifts[..count].copy_from_slice(&corrections[..count]);
+    spreads[..count].copy_from_slice(&uncertainties[..count]);
 }
 
 // The same for a placing that was looked at: its window decides, by 13 or 23.
 fn blend_at(
     unit: Unit,
-    net: &[u32],
-    corrections: &[i16],
-    uncertainties: &[u16],
+    lent: Lent<'_>,
     q: Placing,
     shifts: &mut [i64],
     spreads: &mut [u64],
-) -> Checked
-    requires { Fit unit (length net.now) (length corrections.now) (length uncertainties.now) q
+) -> Result<(), Refusal>
+    requires { Fit unit (length lent.net.now) (length lent.corrections.now) (length lent.uncertainties.now) q
         × (220 ≤ length shifts.old) × (220 ≤ length spreads.old) }
-    ensures value { result ≡ window_checks (net_of unit) (sizes unit) (number_at net.now)
-        (correction_at (sizes unit) corrections.now) q }
+    ensures value { result ≡ window_checks (net_of unit) (sizes unit) (number_at lent.entry.net.now)
+        (correction_at (sizes unit) lent.entry.corrections.now) q }
     ensures shifts_after { shifts.new
-        ≡ written_if result (blended_correction_at unit net.now corrections.now q)
+        ≡ written_if result (blended_correction_at unit lent.entry.net.now lent.entry.corrections.now q)
         unit shifts.old }
     ensures spreads_after { spreads.new
-        ≡ written_if result (blended_uncertainty_at unit net.now uncertainties.now q)
+        ≡ written_if result (blended_uncertainty_at unit lent.entry.net.now lent.entry.uncertainties.now q)
         unit spreads.old }
-    ensures sized { result ≡ Passed
-        → Sized unit net.now corrections.now uncertainties.now q }
+    ensures sized { result ≡ no_refusal
+        → Sized unit lent.entry.net.now lent.entry.corrections.now lent.entry.uncertainties.now q }
 {
     let f = frame::framed(unit, q);
     let offsets = adding::offsets_of(f);
     let mut shares = [0u64; 220];
     let mut c = [0i64; 220];
     let mut u = [0u64; 220];
-    let gap = adding::add_window(
-        net,
-        corrections,
-        uncertainties,
+    let found = adding::add_window(
+        lent.net,
+        lent.corrections,
+        lent.uncertainties,
         f,
         &offsets,
         &mut shares,
         &mut c,
         &mut u,
     );
-    let gapped = gap.check();
-    if let Checked::Stopped(refusal) = gapped {
-        return Checked::Stopped(refusal);
-    }
+    gap::check(found)?;
     let m = f.m;
     if !unity::adds_up(&shares, m) {
-        return Checked::stop(23, 0);
+        return Err(Refusal::UnevenShares);
     }
     let count = f.count;
     hand_over(count, &c, &u, shifts, spreads);
-    Checked::Passed
+    Ok(())
 }
 
 // In the two arrays, the blended correction and uncertainty at each local place of a placing in turn; or the
@@ -98,27 +92,28 @@ fn blend_at(
 // does not see.
 pub fn blend(
     unit: Unit,
-    net: &[u32],
-    corrections: &[i16],
-    uncertainties: &[u16],
+    lent: Lent<'_>,
     q: Placing,
     shifts: &mut [i64; 220],
     spreads: &mut [u64; 220],
-) -> Checked
-    ensures value { result ≡ blend_checks unit net.now corrections.now
-        uncertainties.now q }
+) -> Result<(), Refusal>
+    ensures value { result ≡ blend_checks unit lent.entry.net.now lent.entry.corrections.now
+        lent.entry.uncertainties.now q }
     ensures shifts_after { shifts.new
-        ≡ written_if result (blended_correction_at unit net.now corrections.now q)
+        ≡ written_if result (blended_correction_at unit lent.entry.net.now lent.entry.corrections.now q)
         unit shifts.old }
     ensures spreads_after { spreads.new
-        ≡ written_if result (blended_uncertainty_at unit net.now uncertainties.now q)
+        ≡ written_if result (blended_uncertainty_at unit lent.entry.net.now lent.entry.uncertainties.now q)
         unit spreads.old }
-    ensures sized { result ≡ Passed
-        → Sized unit net.now corrections.now uncertainties.now q }
+    ensures sized { result ≡ no_refusal
+        → Sized unit lent.entry.net.now lent.entry.corrections.now lent.entry.uncertainties.now q }
 {
-    let placed = possible::check_placed(unit, q, net.len(), corrections.len(), uncertainties.len());
-    if let Checked::Stopped(refusal) = placed {
-        return Checked::Stopped(refusal);
-    }
-    blend_at(unit, net, corrections, uncertainties, q, shifts, spreads)
+    possible::check_placed(
+        unit,
+        q,
+        lent.net.len(),
+        lent.corrections.len(),
+        lent.uncertainties.len(),
+    )?;
+    blend_at(unit, lent, q, shifts, spreads)
 }

@@ -7,30 +7,29 @@ use lib.ListN.{length}
 use Rattle.sums.specs.Fill.{filled}
 use Rattle.spline.specs.Box.{net_list}
 use Rattle.spline.specs.Multiplicities.{order_multiplicities}
-use Rattle.checks.specs.declared.Checked.{Checked}
-use Rattle.checks.specs.declared.Checked.TheVariants.{Passed, Stopped}
 use Rattle.checks.specs.declared.Refusal.{Refusal}
 use Rattle.unit.specs.Unit.{with_net}
 use Rattle.unit.specs.declared.Unit.{Unit}
-use Rattle.unit.specs.declared.UnitAnswer.TheVariants.{Changed, Refused}
 use Rattle.orders.specs.Order.{build_checks}
 use Rattle.builds.proofs.OrderNets.{net_over}
 use Rattle.builds.specs.Build.{build_answer, build_net, BuildWork}
+use Rattle.std.specs.Prelude.{Err, Ok}
+use Rattle.checks.specs.Checks.{Checked, no_refusal}
 
 module _ (u : Unit) (order net : List ℕ) (work : List ℤ) where
   abbrev checks : Checked
   checks = build_checks order (length net) (length work)
 
   -- a refused build leaves both slices as they were
-  pub build-refused : (r : Refusal) → checks ≡ Stopped r
-      → (build_answer u order (length net) (length work) ≡ Refused r)
+  pub build-refused : (r : Refusal) → checks ≡ Err r
+      → (build_answer u order (length net) (length work) ≡ Err r)
       × (build_net order net (length work) ≡ net) × BuildWork order (length net) work work
   unfolding build_answer build_net BuildWork
   build-refused r h = (simp h, simp h, simp h)
 
   -- one that passed its checks sets the unit's net, and leaves the net of the order in the net slice
-  pub build-passed : checks ≡ Passed
-      → (build_answer u order (length net) (length work) ≡ Changed (with_net u (order_multiplicities order)))
+  pub build-passed : checks ≡ no_refusal
+      → (build_answer u order (length net) (length work) ≡ Ok (with_net u (order_multiplicities order)))
       × (build_net order net (length work) ≡ net_over order net)
       × ((after : List ℤ) → length after ≡ length work → BuildWork order (length net) work after)
   unfolding build_answer build_net BuildWork filled net_list

@@ -17,8 +17,10 @@ ghost use Rattle.flat_unit.specs.Record.{empty_flat, flat_block, flat_net, unit_
 ghost use Rattle.flat.specs.Flat.{flat_live, flat_placing, flat_point, switched_on};
 
 use axis_order::Placing;
+use blending::lent::Lent;
 use flat::{FlatLiveAnswer, FlatPlacingAnswer, FlatPointAnswer};
 use flat_unit::{FlatUnit, FlatUnitAnswer};
+use placing::Point;
 
 // The record that holds neither net nor block.
 #[unsafe(no_mangle)]
@@ -43,7 +45,7 @@ pub extern "C" fn torskavel_build(
     ensures work { BuildWork order.now (length net.old)
         work.old work.new }
 {
-    flat_unit::flat_net(unit, net::build(flat_unit::unit_of(unit), order, net, work))
+    flat_unit::flat_net(unit, net::build(unit.into(), order, net, work))
 }
 
 // `inspection::inspect`.
@@ -65,7 +67,7 @@ pub extern "C" fn torskavel_inspect(
 {
     flat_unit::flat_net(
         unit,
-        inspection::inspect(flat_unit::unit_of(unit), v1, v2, v3, v4, net, defined, work),
+        inspection::inspect(unit.into(), v1, v2, v3, v4, net, defined, work),
     )
 }
 
@@ -76,7 +78,7 @@ pub extern "C" fn torskavel_factory(unit: FlatUnit, net: &mut [u32]) -> FlatUnit
         ≡ flat_net unit (factory_answer (unit_of unit) (length net.old)) }
     ensures net { net.new ≡ factory_net net.old }
 {
-    flat_unit::flat_net(unit, factory::copy(flat_unit::unit_of(unit), net))
+    flat_unit::flat_net(unit, factory::copy(unit.into(), net))
 }
 
 // `field::load`.
@@ -96,7 +98,7 @@ pub extern "C" fn torskavel_load(
 {
     flat_unit::flat_block(
         unit,
-        field::load(flat_unit::unit_of(unit), file, corrections, uncertainties),
+        field::load(unit.into(), file, corrections, uncertainties),
     )
 }
 
@@ -115,8 +117,12 @@ pub extern "C" fn torskavel_answer(
     ensures { result ≡ flat_point (point_answer (unit_of unit) net.now
         corrections.now uncertainties.now x y z divisor) }
 {
-    let handed = flat_unit::unit_of(unit);
-    flat::flat_point(point::answer(handed, net, corrections, uncertainties, x, y, z, divisor))
+    let lent = Lent {
+        net,
+        corrections,
+        uncertainties,
+    };
+    point::answer(unit.into(), lent, Point { x, y, z, divisor }).into()
 }
 
 // `live::answer`.
@@ -135,19 +141,14 @@ pub extern "C" fn torskavel_live_answer(
     ensures { result ≡ flat_live (live_answer (unit_of unit) net.now corrections.now
         uncertainties.now x y z divisor (switched_on with_uncertainty)) }
 {
-    let handed = flat_unit::unit_of(unit);
-    let on = flat::switched_on(with_uncertainty);
-    flat::flat_live(live::answer(
-        handed,
+    let lent = Lent {
         net,
         corrections,
         uncertainties,
-        x,
-        y,
-        z,
-        divisor,
-        on,
-    ))
+    };
+    let at = Point { x, y, z, divisor };
+    let on = flat::switched_on(with_uncertainty);
+    live::answer(unit.into(), lent, at, on).into()
 }
 
 // `placing::place`.
@@ -161,7 +162,7 @@ pub extern "C" fn torskavel_place(
 ) -> FlatPlacingAnswer
     ensures { result ≡ flat_placing (place_answer (unit_of unit) x y z divisor) }
 {
-    flat::flat_placing(placing::place(flat_unit::unit_of(unit), x, y, z, divisor))
+    placing::place(unit.into(), Point { x, y, z, divisor }).into()
 }
 
 // `point::value`.
@@ -176,8 +177,12 @@ pub extern "C" fn torskavel_value(
     ensures { result ≡ flat_point (valuing_answer (unit_of unit) net.now
         corrections.now uncertainties.now q) }
 {
-    let handed = flat_unit::unit_of(unit);
-    flat::flat_point(point::value(handed, net, corrections, uncertainties, q))
+    let lent = Lent {
+        net,
+        corrections,
+        uncertainties,
+    };
+    point::value(unit.into(), lent, q).into()
 }
 
 // `live::value`.
@@ -193,7 +198,11 @@ pub extern "C" fn torskavel_live_value(
     ensures { result ≡ flat_live (live_valuing_answer (unit_of unit) net.now
         corrections.now uncertainties.now q (switched_on with_uncertainty)) }
 {
-    let handed = flat_unit::unit_of(unit);
+    let lent = Lent {
+        net,
+        corrections,
+        uncertainties,
+    };
     let on = flat::switched_on(with_uncertainty);
-    flat::flat_live(live::value(handed, net, corrections, uncertainties, q, on))
+    live::value(unit.into(), lent, q, on).into()
 }

@@ -2,9 +2,8 @@
 use Rattle.std.specs.Prelude.{Bool, ◌&&◌, not, ◌-◌, ℕ, leb}
 use Rattle.spline.specs.Multiplicities.{Multiplicities, extent}
 use Rattle.spline.specs.Place.{Axis, a1, a2, a3}
-use Rattle.checks.specs.Checks.{refuse_if}
-use Rattle.checks.specs.declared.Checked.{Checked}
-use Rattle.checks.specs.declared.Checked.TheVariants.{Passed}
+use Rattle.checks.specs.Checks.{Checked, no_refusal, refuse_if}
+use Rattle.checks.specs.declared.Refusal.TheVariants.{Outside}
 
 -- Section 9.2: inside on an axis
 abbrev pub inside_on : ℕ → ℕ → ℕ → Bool
@@ -19,4 +18,4 @@ inside v n k =
 
 -- Section 5.3: 12 for a cell that is not inside
 unfoldable pub cell_check : Multiplicities → (Axis → ℕ) → (Axis → ℕ) → Checked
-cell_check v n k = refuse_if 12 (not (inside v n k)) Passed
+cell_check v n k = refuse_if Outside (not (inside v n k)) no_refusal

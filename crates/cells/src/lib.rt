@@ -12,26 +12,19 @@ ghost use Rattle.cells.specs.Coordinates.{cell_of, pivot_of};
 pub fn pivot(d: u8, u2: usize, u3: usize, g: usize) -> usize
     ensures { result ≡ pivot_of (direction d) 0 u2 u3 g }
 {
-    if d == 1 {
-        return 0;
+    match d {
+        1 => 0,
+        2 => u2,
+        3 => u3,
+        _ => g,
     }
-    if d == 2 {
-        return u2;
-    }
-    if d == 3 {
-        return u3;
-    }
-    g
 }
 
 // A remainder, less 1 where it is strictly greater than the pivot.
 pub fn lower(p: usize, u: usize) -> usize
     ensures { result ≡ lower_above p u }
 {
-    if p < u {
-        return u - 1;
-    }
-    u
+    if p < u { u - 1 } else { u }
 }
 
 // The cell and the remainder of a coordinate: `base` counts the lowered places of the cells before it, g×k.
@@ -47,9 +40,6 @@ pub fn first_cell(g: usize, step: usize) -> Cell
     ensures at_any_step { result ≡ cell_of g (cond (ltb 0 step) g 0) }
     ensures up_to_one { step ≤ 1 → result ≡ cell_of g (g * step) }
 {
-    let mut u = 0;
-    if 0 < step {
-        u = g;
-    }
+    let u = if 0 < step { g } else { 0 };
     Cell { base: 0, u }
 }

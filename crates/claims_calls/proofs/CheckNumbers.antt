@@ -11,9 +11,6 @@ use Rattle.sums.specs.Fill.{number_at}
 use Rattle.spline.specs.Box.{places, width}
 use Rattle.spline.specs.Multiplicities.{degree}
 use Rattle.spline.specs.Place.{Axis}
-use Rattle.checks.specs.Checks.{and_then, passed_or}
-use Rattle.checks.specs.declared.Checked.{Checked}
-use Rattle.checks.specs.declared.Checked.TheVariants.{Passed, Stopped}
 use Rattle.unit.specs.Unit.{holds_block, holds_net, net_of, sizes}
 use Rattle.unit.specs.declared.Unit.{Unit}
 use Rattle.limits.specs.Limits.{lent_checks, room_checks, unit_checks}
@@ -35,6 +32,9 @@ use Rattle.claims_calls.proofs.Numbered.{Numbered, at-numbered, if-numbered, the
 use Rattle.blended.specs.Blend.{blend_checks, correction_at, window_checks}
 use Rattle.blended.specs.Blending.{adds_up}
 use Rattle.blended.specs.Gaps.{first_gap}
+use Rattle.checks.specs.Checks.{Checked, and_then, no_refusal, passed_or}
+use Rattle.std.specs.Prelude.{Err, Ok}
+use Rattle.checks.specs.declared.Refusal.TheVariants.{BadDivisor, ImpossiblePlacing, LargeLiveScale, LargeScale, NetRoom, NoBlock, NoNet, Outside, UnevenShares, WindowGap}
 
 abbrev pub of_unit : List ℕ
 of_unit = 21 ∷ 22 ∷ []
@@ -56,18 +56,18 @@ of_window = 13 ∷ 23 ∷ []
 
 pub signs-numbered : (x y z : ℤ) → Numbered (12 ∷ []) (sign_check x y z)
 unfolding sign_check
-signs-numbered x y z = if-numbered 12 (not (non_neg x && non_neg y && non_neg z)) Passed [] tt
+signs-numbered x y z = if-numbered Outside (not (non_neg x && non_neg y && non_neg z)) no_refusal [] tt
 
 module _ (u : Unit) where
   pub unit-numbered : Numbered of_unit (unit_checks u)
   unfolding unit_checks
   unit-numbered =
-      if-numbered 21 (not (holds_net u)) _ (22 ∷ []) (if-numbered 22 (not (holds_block u)) Passed [] tt)
+      if-numbered NoNet (not (holds_net u)) _ (22 ∷ []) (if-numbered NoBlock (not (holds_block u)) no_refusal [] tt)
 
   pub room-numbered : (net_length corrections_length uncertainties_length : ℕ)
       → Numbered (4 ∷ 9 ∷ []) (room_checks u net_length corrections_length uncertainties_length)
   room-numbered net_length corrections_length uncertainties_length =
-      if-numbered 4 (ltb net_length (places (width (net_of u)))) _ (9 ∷ [])
+      if-numbered NetRoom (ltb net_length (places (width (net_of u)))) _ (9 ∷ [])
       (block-room-numbered (places (sizes u)) corrections_length uncertainties_length)
 
   pub lent-numbered : (net_length corrections_length uncertainties_length : ℕ)
@@ -80,12 +80,12 @@ module _ (u : Unit) where
   pub divisor-numbered : (D : ℕ) → Numbered of_divisor (divisor_checks (net_of u) D)
   unfolding divisor_checks
   divisor-numbered D =
-      if-numbered 10 (eqb D 0 || ltb 4096 D) _ (11 ∷ [])
-      (if-numbered 11 (ltb limit (scale (degree (net_of u)) D)) Passed [] tt)
+      if-numbered BadDivisor (eqb D 0 || ltb 4096 D) _ (11 ∷ [])
+      (if-numbered LargeScale (ltb limit (scale (degree (net_of u)) D)) no_refusal [] tt)
 
   scale-numbered : (D : ℕ) → Numbered (15 ∷ []) (live_scale_check (net_of u) D)
   unfolding live_scale_check
-  scale-numbered D = if-numbered 15 (ltb live_limit (scale (degree (net_of u)) D)) Passed [] tt
+  scale-numbered D = if-numbered LargeLiveScale (ltb live_limit (scale (degree (net_of u)) D)) no_refusal [] tt
 
   pub live-divisor-numbered : (D : ℕ) → Numbered (of_divisor ++ 15 ∷ []) (live_divisor_checks (net_of u) D)
   unfolding live_divisor_checks
@@ -95,7 +95,7 @@ module _ (u : Unit) where
 
   pub cell-numbered : (k : Axis → ℕ) → Numbered (12 ∷ []) (cell_check (net_of u) (sizes u) k)
   unfolding cell_check
-  cell-numbered k = if-numbered 12 (not (inside (net_of u) (sizes u) k)) Passed [] tt
+  cell-numbered k = if-numbered Outside (not (inside (net_of u) (sizes u) k)) no_refusal [] tt
 
   inside-numbered : (x y z : ℤ) (D : ℕ) → Numbered of_cell (inside_check u x y z D)
   unfolding inside_check
@@ -122,7 +122,7 @@ module _ (u : Unit) where
   unfolding placing_checks
   placing-numbered q =
       then-numbered of_unit (17 ∷ []) (unit_checks u) _ unit-numbered
-      (if-numbered 17 (not (possible u q)) Passed [] tt)
+      (if-numbered ImpossiblePlacing (not (possible u q)) no_refusal [] tt)
 
   pub live-placing-numbered : (q : Placing)
       → Numbered (of_placing ++ 15 ∷ []) (live_placing_checks u q)
@@ -132,9 +132,9 @@ module _ (u : Unit) where
       (placing-numbered q) (scale-numbered (weight_sum q))
 
   early-by : (q : Placing) (k : Checked)
-      → Numbered (of_placing ++ 15 ∷ []) (passed_or k Passed (λ r. live_placing_checks u q))
-  early-by q Passed = tt
-  early-by q (Stopped r) = live-placing-numbered q
+      → Numbered (of_placing ++ 15 ∷ []) (passed_or k no_refusal (λ r. live_placing_checks u q))
+  early-by q (Ok _) = tt
+  early-by q (Err r) = live-placing-numbered q
 
   pub early-numbered : (q : Placing) → Numbered (of_placing ++ 15 ∷ []) (early_checks u q)
   unfolding early_checks
@@ -155,9 +155,9 @@ module _ (u : Unit) (net : List ℕ) (corrections : List ℤ) (uncertainties : L
   window-numbered : (q : Placing) → Numbered of_window (last q)
   unfolding window_checks
   window-numbered q =
-      at-numbered 13 (first_gap (net_of u) (sizes u) (correction_at (sizes u) corrections) (placing_cell q)) _
-      (23 ∷ []) refl
-      (if-numbered 23 (not (adds_up (net_of u) (number_at net) q)) Passed [] tt)
+      at-numbered WindowGap (first_gap (net_of u) (sizes u) (correction_at (sizes u) corrections) (placing_cell q)) _
+      (23 ∷ []) (λ _. refl)
+      (if-numbered UnevenShares (not (adds_up (net_of u) (number_at net) q)) no_refusal [] tt)
 
   abbrev lent : Checked
   lent = lent_slices u net corrections (length uncertainties)

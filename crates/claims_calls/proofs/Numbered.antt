@@ -1,5 +1,4 @@
--- Checks in a row that refuse, if at all, with a number of a list, and with the place 0 if that number speaks
--- of none.
+-- Checks in a row that refuse, if at all, with a number of a list; and the place of a refusal by its number.
 use mathlib.Core.Bool.{Bool, ◌&&◌, ◌||◌, false, true}
 use mathlib.Core.List.{List, [], ◌++◌, ◌∷◌}
 use mathlib.Core.Path.{◌∙◌, ◌≡◌, ap, refl, subst, sym}
@@ -8,11 +7,15 @@ use borrow.Author.Tests.{eq-eqb, eqb-true}
 use lib.Dec.{eqb}
 use Rattle.sums.proofs.Search.{false-true}
 use Rattle.sums.specs.Search.{Found, at, nowhere}
-use Rattle.checks.specs.Checks.{and_then, refuse_at, refuse_if}
-use Rattle.checks.specs.declared.Checked.{Checked}
-use Rattle.checks.specs.declared.Checked.TheVariants.{Passed, Stopped}
 use Rattle.checks.specs.declared.Refusal.{Refusal}
+use Rattle.checks.specs.declared.Refusal.TheVariants.{BadByte, BadDivisor, BadLength, BadMultiplicities}
+use Rattle.checks.specs.declared.Refusal.TheVariants.{BadSizes, BlockRoom, Differing, ImpossiblePlacing}
+use Rattle.checks.specs.declared.Refusal.TheVariants.{LargeLiveScale, LargeScale, LargeUncertainty}
+use Rattle.checks.specs.declared.Refusal.TheVariants.{LongOrder, NetRoom, NoBlock, NoNet, Outside}
+use Rattle.checks.specs.declared.Refusal.TheVariants.{ShortFile, UncertainGap, UnevenShares, WindowGap}
 use Rattle.claims_calls.specs.Refusals.{among, speaks_of_place}
+use Rattle.checks.specs.Checks.{Checked, and_then, number_of, place_of, refuse_at, refuse_if}
+use Rattle.std.specs.Prelude.{Err, Ok}
 
 -- ---- numbers of a list
 
@@ -55,39 +58,63 @@ among-all (x ∷ l) m n all h =
 
 -- ---- checks in a row
 
--- a refusal with a number of the list, and with the place 0 if its number speaks of none
-pub record Right (l : List ℕ) (r : Refusal) : Type 0 where
-  pub listed : among r.number l ≡ true
-  pub no_place : speaks_of_place r.number ≡ false → r.place ≡ 0
+-- a refusal with a number of the list
+pub record Listed (l : List ℕ) (r : Refusal) : Type 0 where
+  pub is : among (number_of r) l ≡ true
 
 -- checks that stop, if at all, with such a refusal
 abbrev pub Numbered : List ℕ → Checked → Type 0
-Numbered l Passed = Prim.Unit {0}
-Numbered l (Stopped r) = Right l r
+Numbered l (Ok _) = Prim.Unit {0}
+Numbered l (Err r) = Listed l r
 
 wider : (l m : List ℕ) (k : Checked) → ((n : ℕ) → among n l ≡ true → among n m ≡ true)
     → Numbered l k → Numbered m k
-wider l m Passed more h = tt
-wider l m (Stopped r) more h = record { listed = more r.number h.listed; no_place = h.no_place }
+wider l m (Ok _) more h = tt
+wider l m (Err r) more h = record { is = more (number_of r) h.is }
 
 -- of checks one after another, the numbers are those of each
-pub if-numbered : (n : ℕ) (applies : Bool) (rest : Checked) (l : List ℕ)
-    → Numbered l rest → Numbered (n ∷ l) (refuse_if n applies rest)
-if-numbered n true rest l h = record { listed = rw (eq-eqb n n refl) refl; no_place = λ _. refl }
-if-numbered n false rest l h = wider l (n ∷ l) rest (λ i k. or-second (eqb i n) (among i l) k) h
+pub if-numbered : (k : Refusal) (applies : Bool) (rest : Checked) (l : List ℕ)
+    → Numbered l rest → Numbered (number_of k ∷ l) (refuse_if k applies rest)
+if-numbered k true rest l h = let n = number_of k in record { is = rw (eq-eqb n n refl) refl }
+if-numbered k false rest l h =
+    let n = number_of k in wider l (n ∷ l) rest (λ i more. or-second (eqb i n) (among i l) more) h
 
-pub at-numbered : (n : ℕ) (found : Found) (rest : Checked) (l : List ℕ)
-    → speaks_of_place n ≡ true → Numbered l rest → Numbered (n ∷ l) (refuse_at n found rest)
-at-numbered n nowhere rest l p h = wider l (n ∷ l) rest (λ i k. or-second (eqb i n) (among i l) k) h
-at-numbered n (at i) rest l p h =
-    record { listed = rw (eq-eqb n n refl) refl; no_place = λ e. absurd (false-true (sym e ∙ p)) }
+pub at-numbered : (k : ℕ → Refusal) {n : ℕ} (found : Found) (rest : Checked) (l : List ℕ)
+    → ((i : ℕ) → number_of (k i) ≡ n) → Numbered l rest → Numbered (n ∷ l) (refuse_at k found rest)
+at-numbered k {n} nowhere rest l is h = wider l (n ∷ l) rest (λ i more. or-second (eqb i n) (among i l) more) h
+at-numbered k {n} (at i) rest l is h = record { is = rw (is i) (rw (eq-eqb n n refl) refl) }
 
 pub then-numbered : (l m : List ℕ) (start rest : Checked) → Numbered l start → Numbered m rest
     → Numbered (l ++ m) (and_then start rest)
-then-numbered l m Passed rest h k = wider m (l ++ m) rest (among_second l m) k
-then-numbered l m (Stopped r) rest h k = wider l (l ++ m) (Stopped r) (among_first l m) h
+then-numbered l m (Ok _) rest h k = wider m (l ++ m) rest (among_second l m) k
+then-numbered l m (Err r) rest h k = wider l (l ++ m) (Err r) (among_first l m) h
 
 -- the refusal that stopped, in a list that has all these numbers
-pub stopped-right : (l m : List ℕ) {k : Checked} {r : Refusal} → Numbered l k → all_among l m ≡ true
-    → k ≡ Stopped r → Right m r
-stopped-right l m {k} {r} h all e = wider l m (Stopped r) (λ n. among-all l m n all) (subst (Numbered l) e h)
+pub stopped-listed : (l m : List ℕ) {k : Checked} {r : Refusal} → Numbered l k → all_among l m ≡ true
+    → k ≡ Err r → Listed m r
+stopped-listed l m {k} {r} h all e = wider l m (Err r) (λ n. among-all l m n all) (subst (Numbered l) e h)
+
+-- ---- places
+
+-- a refusal whose number speaks of no place has the place 0
+pub no-place : (r : Refusal) → speaks_of_place (number_of r) ≡ false → place_of r ≡ 0
+no-place LongOrder h = refl
+no-place (BadByte i) h = absurd (false-true (sym h))
+no-place BadMultiplicities h = refl
+no-place NetRoom h = refl
+no-place ShortFile h = refl
+no-place BadSizes h = refl
+no-place BadLength h = refl
+no-place (LargeUncertainty i) h = absurd (false-true (sym h))
+no-place BlockRoom h = refl
+no-place BadDivisor h = refl
+no-place LargeScale h = refl
+no-place Outside h = refl
+no-place (WindowGap i) h = absurd (false-true (sym h))
+no-place (Differing i) h = absurd (false-true (sym h))
+no-place LargeLiveScale h = refl
+no-place (UncertainGap i) h = absurd (false-true (sym h))
+no-place ImpossiblePlacing h = refl
+no-place NoNet h = refl
+no-place NoBlock h = refl
+no-place UnevenShares h = refl

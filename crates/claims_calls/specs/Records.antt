@@ -1,12 +1,9 @@
 -- The records and answers of the C interface: Section 14.1.
-use Rattle.std.specs.Prelude.{Bool, List, ◌↔◌, ◌≡◌, ℕ, ℤ}
+use Rattle.std.specs.Prelude.{Bool, Err, List, Ok, Result, ℕ, ℤ, ◌↔◌, ◌≡◌}
 use Rattle.spline.specs.Multiplicities.{Multiplicities}
-use Rattle.checks.specs.Checks.{refusal}
-use Rattle.checks.specs.declared.Checked.TheVariants.{Passed}
 use Rattle.checks.specs.declared.Refusal.{Refusal}
 use Rattle.unit.specs.Unit.{empty_unit}
 use Rattle.unit.specs.declared.Unit.{Unit}
-use Rattle.unit.specs.declared.UnitAnswer.{UnitAnswer}
 use Rattle.inspection.specs.Inspect.{inspect_answer}
 use Rattle.factory.specs.Factory.{factory_answer}
 use Rattle.limits.specs.Limits.{unit_checks}
@@ -21,9 +18,8 @@ use Rattle.flat.specs.Flat.{flat_live, flat_placing, flat_point, no_placing, swi
 use Rattle.claims_calls.specs.Refusals.{Call, Refuses, build, copy, inspect, live, live_valuing, load}
 use Rattle.claims_calls.specs.Refusals.{place, point, value}
 use Rattle.builds.specs.Build.{build_answer}
-use Rattle.unit.specs.declared.UnitAnswer.TheVariants as units
-use Rattle.answers.specs.declared.LiveAnswer.TheVariants as lives
-use Rattle.answers.specs.declared.PointAnswer.TheVariants as points
+use Rattle.checks.specs.Checks.{no_refusal}
+use Rattle.checks.specs.declared.Refusal.TheVariants.{ImpossiblePlacing}
 
 -- ---- numbers
 
@@ -66,9 +62,9 @@ FlatNumbers =
 
 -- Section 14.1: the record `now` that a call answers in C, beside the record that it was handed: it stands
 -- for the unit that was answered; where the call was refused, it is the one that was handed in, byte by byte
-abbrev pub Stands : FlatUnit → UnitAnswer → FlatUnit → Type 0
-Stands before (units.Changed after) now = unit_of now ≡ after
-Stands before (units.Refused r) now = now ≡ before
+abbrev pub Stands : FlatUnit → Result Unit Refusal → FlatUnit → Type 0
+Stands before (Ok after) now = unit_of now ≡ after
+Stands before (Err r) now = now ≡ before
 
 -- Section 14.1: that holds of every call that sets a half of the unit; and the empty record stands for the
 -- empty unit.
@@ -95,6 +91,6 @@ FlatUnits =
 abbrev pub NoPlacing : Type 0
 NoPlacing =
     (u : Unit) (net : List ℕ) (corrections : List ℤ) (uncertainties : List ℕ) (flag : Bool)
-    → unit_checks u ≡ Passed
-    → (valuing_answer u net corrections uncertainties no_placing ≡ points.Refused (refusal 17 0))
-    × (live_valuing_answer u net corrections uncertainties no_placing flag ≡ lives.Refused (refusal 17 0))
+    → unit_checks u ≡ no_refusal
+    → (valuing_answer u net corrections uncertainties no_placing ≡ Err ImpossiblePlacing)
+    × (live_valuing_answer u net corrections uncertainties no_placing flag ≡ Err ImpossiblePlacing)

@@ -1,10 +1,9 @@
 -- Refusals: which numbers calls answer, and what a refused call leaves. Section 14.1.
-use Rattle.std.specs.Prelude.{Bool, ◌||◌, false, not, true, List, [], ◌∷◌, ◌≡◌, ℕ, eqb, ℤ, length}
+use Rattle.std.specs.Prelude.{Option, Bool, Err, List, [], eqb, false, length, not, true, ℕ, ℤ, ◌||◌, ◌∷◌}
+use Rattle.std.specs.Prelude.{◌≡◌}
 use Rattle.spline.specs.Box.{places, width}
 use Rattle.spline.specs.Multiplicities.{Multiplicities, allowed}
 use Rattle.spline.specs.Place.{on_axes}
-use Rattle.checks.specs.Checks.{refuse_at, refuse_if}
-use Rattle.checks.specs.declared.Checked.TheVariants.{Passed, Stopped}
 use Rattle.checks.specs.declared.Refusal.{Refusal}
 use Rattle.unit.specs.Unit.{net_of, sizes}
 use Rattle.unit.specs.declared.Unit.{Unit}
@@ -26,15 +25,12 @@ use Rattle.axis_order.specs.declared.Placing.{Placing}
 use Rattle.placing.specs.Place.{place_answer}
 use Rattle.possible.specs.Possible.{live_placing_checks, placed_checks}
 use Rattle.window.specs.Window.{found_of}
-use Rattle.window.specs.declared.gap.Gap.{Gap}
 use Rattle.blended.specs.Blend.{blend_checks}
 use Rattle.answers.specs.Live.{live_answer, live_valuing_answer}
 use Rattle.answers.specs.Point.{point_answer, valuing_answer}
 use Rattle.in_turn.specs.Early.{early_checks}
-use Rattle.unit.specs.declared.UnitAnswer.TheVariants as units
-use Rattle.placing.specs.declared.PlacingAnswer.TheVariants as placings
-use Rattle.answers.specs.declared.LiveAnswer.TheVariants as lives
-use Rattle.answers.specs.declared.PointAnswer.TheVariants as points
+use Rattle.checks.specs.Checks.{no_refusal, number_of, place_of, refuse_at, refuse_if}
+use Rattle.checks.specs.declared.Refusal.TheVariants.{BadMultiplicities, NetRoom, WindowGap}
 
 -- ---- calls
 
@@ -66,7 +62,7 @@ pub data Call : Type 0 where
   check_placed : (q : Placing) (net_length corrections_length uncertainties_length : ℕ) → Call
   check_live_placing : (q : Placing) → Call
   check_early : (q : Placing) → Call
-  check_window : (gap : Gap) → Call
+  check_window : (gap : Option ℕ) → Call
   check_block_room : (n corrections_length uncertainties_length : ℕ) → Call
   check_file : (file : List ℕ) → Call
   check_limit : (i uncertainty : ℕ) → Call
@@ -74,35 +70,37 @@ pub data Call : Type 0 where
 
 -- Section 14.1: the call on the unit u answers the refusal r
 abbrev pub Refuses : Unit → Call → Refusal → Type 0
-Refuses u (build order net work) r = build_answer u order net work ≡ units.Refused r
-Refuses u (copy net) r = factory_answer u net ≡ units.Refused r
-Refuses u (inspect v net defined work) r = inspect_answer u v net defined work ≡ units.Refused r
-Refuses u (load file cs us) r = load_answer u file cs us ≡ units.Refused r
-Refuses u (place x y z D) r = place_answer u x y z D ≡ placings.Refused r
-Refuses u (point net cs us x y z D) r = point_answer u net cs us x y z D ≡ points.Refused r
-Refuses u (live net cs us x y z D flag) r = live_answer u net cs us x y z D flag ≡ lives.Refused r
-Refuses u (value net cs us q) r = valuing_answer u net cs us q ≡ points.Refused r
-Refuses u (live_valuing net cs us q flag) r = live_valuing_answer u net cs us q flag ≡ lives.Refused r
-Refuses u (blend net cs us q) r = blend_checks u net cs us q ≡ Stopped r
-Refuses u (check_build order net work) r = build_checks order net work ≡ Stopped r
+Refuses u (build order net work) r = build_answer u order net work ≡ Err r
+Refuses u (copy net) r = factory_answer u net ≡ Err r
+Refuses u (inspect v net defined work) r = inspect_answer u v net defined work ≡ Err r
+Refuses u (load file cs us) r = load_answer u file cs us ≡ Err r
+Refuses u (place x y z D) r = place_answer u x y z D ≡ Err r
+Refuses u (point net cs us x y z D) r = point_answer u net cs us x y z D ≡ Err r
+Refuses u (live net cs us x y z D flag) r = live_answer u net cs us x y z D flag ≡ Err r
+Refuses u (value net cs us q) r = valuing_answer u net cs us q ≡ Err r
+Refuses u (live_valuing net cs us q flag) r = live_valuing_answer u net cs us q flag ≡ Err r
+Refuses u (blend net cs us q) r = blend_checks u net cs us q ≡ Err r
+Refuses u (check_build order net work) r = build_checks order net work ≡ Err r
 Refuses u (check_given v net defined work) r =
-    refuse_if 3 (not (allowed v)) (refuse_if 4 (shorter net defined work (places (width v))) Passed) ≡ Stopped r
-Refuses u (compare s net defined) r = comparison s net defined ≡ Stopped r
-Refuses u check_unit r = unit_checks u ≡ Stopped r
-Refuses u (check_room net cs us) r = room_checks u net cs us ≡ Stopped r
-Refuses u (check_lent net cs us) r = lent_checks u net cs us ≡ Stopped r
-Refuses u (check_divisor D) r = divisor_checks (net_of u) D ≡ Stopped r
-Refuses u (check_live_divisor D) r = live_divisor_checks (net_of u) D ≡ Stopped r
-Refuses u (check_signs x y z) r = sign_check x y z ≡ Stopped r
-Refuses u (check_cell k1 k2 k3) r = cell_check (net_of u) (sizes u) (on_axes k1 k2 k3) ≡ Stopped r
-Refuses u (check_placed q net cs us) r = placed_checks u q net cs us ≡ Stopped r
-Refuses u (check_live_placing q) r = live_placing_checks u q ≡ Stopped r
-Refuses u (check_early q) r = early_checks u q ≡ Stopped r
-Refuses u (check_window gap) r = refuse_at 13 (found_of gap) Passed ≡ Stopped r
-Refuses u (check_block_room n cs us) r = block_room_check n cs us ≡ Stopped r
-Refuses u (check_file file) r = file_checks file ≡ Stopped r
-Refuses u (check_limit i uncertainty) r = limit_at i uncertainty ≡ Stopped r
-Refuses u (check_gap i correction uncertainty) r = gap_at i correction uncertainty ≡ Stopped r
+    refuse_if BadMultiplicities (not (allowed v))
+    (refuse_if NetRoom (shorter net defined work (places (width v))) no_refusal)
+    ≡ Err r
+Refuses u (compare s net defined) r = comparison s net defined ≡ Err r
+Refuses u check_unit r = unit_checks u ≡ Err r
+Refuses u (check_room net cs us) r = room_checks u net cs us ≡ Err r
+Refuses u (check_lent net cs us) r = lent_checks u net cs us ≡ Err r
+Refuses u (check_divisor D) r = divisor_checks (net_of u) D ≡ Err r
+Refuses u (check_live_divisor D) r = live_divisor_checks (net_of u) D ≡ Err r
+Refuses u (check_signs x y z) r = sign_check x y z ≡ Err r
+Refuses u (check_cell k1 k2 k3) r = cell_check (net_of u) (sizes u) (on_axes k1 k2 k3) ≡ Err r
+Refuses u (check_placed q net cs us) r = placed_checks u q net cs us ≡ Err r
+Refuses u (check_live_placing q) r = live_placing_checks u q ≡ Err r
+Refuses u (check_early q) r = early_checks u q ≡ Err r
+Refuses u (check_window gap) r = refuse_at WindowGap (found_of gap) no_refusal ≡ Err r
+Refuses u (check_block_room n cs us) r = block_room_check n cs us ≡ Err r
+Refuses u (check_file file) r = file_checks file ≡ Err r
+Refuses u (check_limit i uncertainty) r = limit_at i uncertainty ≡ Err r
+Refuses u (check_gap i correction uncertainty) r = gap_at i correction uncertainty ≡ Err r
 
 -- ---- numbers and places
 
@@ -145,11 +143,11 @@ among n (x ∷ l) = eqb n x || among n l
 -- Section 14.1, an answer or a numbered refusal: whatever a call is handed, a refusal that it answers has one
 -- of its numbers. That a call answers at all is its contract, which asks nothing of the caller.
 abbrev pub Numbers : Type 0
-Numbers = (u : Unit) (c : Call) (r : Refusal) → Refuses u c r → among r.number (numbers_of c) ≡ true
+Numbers = (u : Unit) (c : Call) (r : Refusal) → Refuses u c r → among (number_of r) (numbers_of c) ≡ true
 
 -- Section 14.1: so no refusal has the number 0.
 abbrev pub NotZero : Type 0
-NotZero = (u : Unit) (c : Call) (r : Refusal) → Refuses u c r → r.number ≡ 0 → ⊥
+NotZero = (u : Unit) (c : Call) (r : Refusal) → Refuses u c r → number_of r ≡ 0 → ⊥
 
 -- Section 5.3: those that speak of a place
 abbrev pub speaks_of_place : ℕ → Bool
@@ -159,7 +157,7 @@ speaks_of_place n = eqb n 2 || eqb n 8 || eqb n 13 || eqb n 14 || eqb n 16
 abbrev pub NoPlace : Type 0
 NoPlace =
     (u : Unit) (c : Call) (r : Refusal) → Refuses u c r
-    → speaks_of_place r.number ≡ false → r.place ≡ 0
+    → speaks_of_place (number_of r) ≡ false → place_of r ≡ 0
 
 -- ---- what a refusal leaves
 
@@ -170,10 +168,10 @@ abbrev pub Unchanged : Type 0
 Unchanged =
     (r : Refusal)
     → ((u : Unit) (order net : List ℕ) (before after : List ℤ)
-    → build_answer u order (length net) (length before) ≡ units.Refused r
+    → build_answer u order (length net) (length before) ≡ Err r
     → BuildWork order (length net) before after
     → (build_net order net (length before) ≡ net) × (after ≡ before))
     × ((u : Unit) (file : List ℕ) (corrections : List ℤ) (uncertainties : List ℕ)
-    → load_answer u file corrections uncertainties ≡ units.Refused r
+    → load_answer u file corrections uncertainties ≡ Err r
     → (load_corrections file corrections uncertainties ≡ corrections)
     × (load_uncertainties file corrections uncertainties ≡ uncertainties))

@@ -20,7 +20,6 @@ use Rattle.spline.proofs.Multiplicities.{limits-positive}
 use Rattle.spline.specs.Box.{places}
 use Rattle.spline.specs.Multiplicities.{Multiplicities, degree, extent}
 use Rattle.spline.specs.Place.{Axis, a1, a2, a3}
-use Rattle.checks.specs.declared.Checked.TheVariants.{Passed}
 use Rattle.unit.proofs.Limits.{net-limits}
 use Rattle.unit.specs.Gaps.{is_gap}
 use Rattle.unit.specs.Unit.{net_of, sizes}
@@ -39,8 +38,6 @@ use Rattle.blending.proofs.Windows.{entry_in}
 use Rattle.answers.proofs.Point.{two-calls}
 use Rattle.answers.specs.Bernstein.{shift_numerator, uncertainty_numerator}
 use Rattle.answers.specs.Point.{point_answer}
-use Rattle.answers.specs.declared.PointAnswer.{PointAnswer}
-use Rattle.answers.specs.declared.PointAnswer.TheVariants.{Value}
 use Rattle.claims_rule.specs.Rule.{HoldsDefined}
 use Rattle.claims_nets.proofs.Held.{holds_of}
 use Rattle.claims_points.proofs.Fraction.{fraction}
@@ -54,6 +51,10 @@ use Rattle.blended.proofs.LocalPlaces.{local-le}
 use Rattle.blended.specs.Blend.{correction_at, uncertainty_at}
 use Rattle.blended.specs.Blending.{blended_correction, local_place, share, share_sum}
 use Rattle.blended.specs.Gaps.{first_gap, window_gap}
+use Rattle.std.specs.Prelude.{Ok, Result}
+use Rattle.checks.specs.Checks.{no_refusal}
+use Rattle.checks.specs.declared.Refusal.{Refusal}
+use Rattle.answers.specs.declared.Fraction.{Fraction}
 
 -- no entry of a constant block is a gap
 constant-measured : (v : Multiplicities) (n k : Axis → ℕ) (corrections : List ℤ) (c : ℤ)
@@ -104,8 +105,8 @@ numerator-constant v net entry q c h =
     ∙ *ℤ-assoc c (pos (factorial m)) (pos (weight_sum q ^ m))
 
 -- the fraction c × m! × D^m over m! × D^m, with the uncertainty of the placing
-abbrev constant_value : Multiplicities → Unit → List ℕ → List ℕ → ℤ → ℤ → ℤ → ℤ → ℕ → PointAnswer
-constant_value v u net uncertainties c x y z D = Value (record {
+abbrev constant_value : Multiplicities → Unit → List ℕ → List ℕ → ℤ → ℤ → ℤ → ℤ → ℕ → Result Fraction Refusal
+constant_value v u net uncertainties c x y z D = Ok (record {
   numerator = c *ℤ pos (scale (degree v) D);
   uncertainty =
       uncertainty_numerator v (number_at net) (uncertainty_at (sizes u) uncertainties) (placing u x y z D);
@@ -116,8 +117,8 @@ constant_value v u net uncertainties c x y z D = Value (record {
 constant-held : (u : Unit) (net : List ℕ) (corrections : List ℤ) (uncertainties : List ℕ)
     → (x y z : ℤ) (D : ℕ) (c : ℤ)
     → HoldsDefined (net_of u) net → Constant (places (sizes u)) corrections c
-    → lent_checks u (length net) (length corrections) (length uncertainties) ≡ Passed
-    → position_checks u x y z D ≡ Passed
+    → lent_checks u (length net) (length corrections) (length uncertainties) ≡ no_refusal
+    → position_checks u x y z D ≡ no_refusal
     → point_answer u net corrections uncertainties x y z D
     ≡ constant_value (net_of u) u net uncertainties c x y z D
 constant-held u net corrections uncertainties x y z D c holds block passes inside =
@@ -147,7 +148,7 @@ constant-held u net corrections uncertainties x y z D c holds block passes insid
     (adds-up v p net l.net_long holds q)
     ∙ ap
     (λ (w : ℤ).
-    Value (record {
+    Ok (record {
       numerator = w;
       uncertainty = uncertainty_numerator v number (uncertainty_at (sizes u) uncertainties) q;
       denominator = scale (degree v) D;
@@ -170,7 +171,7 @@ placed-constant-block v s made u alike net still corrections c block uncertainti
     sym (two-calls u net corrections uncertainties x y z D h)
     ∙ constant-block v s made u alike net still corrections c block uncertainties
     (lent_is u net corrections uncertainties p.unit-passed ∙ long) x y z D p.position-passed
-    ∙ ap (λ (t : Placing). Value (record {
+    ∙ ap (λ (t : Placing). Ok (record {
       numerator = c *ℤ pos (scale (degree v) D);
       uncertainty = uncertainty_numerator v (number_at net) (uncertainty_at (sizes u) uncertainties) t;
       denominator = scale (degree v) D;

@@ -1,9 +1,8 @@
 -- Placings in a block with one correction throughout: Section 14.10.
-use Rattle.std.specs.Prelude.{List, ◌≡◌, ℕ, ◌*ℤ◌, pos, ℤ, length, take}
+use Rattle.std.specs.Prelude.{List, Ok, length, pos, take, ℕ, ℤ, ◌*ℤ◌, ◌≡◌}
 use Rattle.sums.specs.Fill.{number_at}
 use Rattle.spline.specs.Box.{places, width}
 use Rattle.spline.specs.Multiplicities.{Multiplicities, degree}
-use Rattle.checks.specs.declared.Checked.TheVariants.{Passed}
 use Rattle.unit.specs.Unit.{net_of, sizes}
 use Rattle.unit.specs.declared.Unit.{Unit}
 use Rattle.limits.specs.Limits.{room_checks}
@@ -15,8 +14,7 @@ use Rattle.answers.specs.Point.{valuing_answer}
 use Rattle.claims_nets.specs.Nets.{BuiltOrPassed}
 use Rattle.claims_constants.specs.Points.{Constant}
 use Rattle.blended.specs.Blend.{uncertainty_at}
-use Rattle.placing.specs.declared.PlacingAnswer.TheVariants as placings
-use Rattle.answers.specs.declared.PointAnswer.TheVariants as points
+use Rattle.checks.specs.Checks.{no_refusal}
 
 -- A net was built or passed, a unit has a net of its multiplicities, and the lent net slice still holds it;
 -- each entry of the block has the same correction c, which is no gap, and any uncertainty. Where the placing
@@ -28,10 +26,10 @@ PlacedConstantBlock =
     → (net : List ℕ) → take (places (width v)) net ≡ take (places (width v)) s
     → (corrections : List ℤ) (c : ℤ) → Constant (places (sizes u)) corrections c
     → (uncertainties : List ℕ)
-    → room_checks u (length net) (length corrections) (length uncertainties) ≡ Passed
-    → (x y z : ℤ) (D : ℕ) (q : Placing) → place_answer u x y z D ≡ placings.Placed q
+    → room_checks u (length net) (length corrections) (length uncertainties) ≡ no_refusal
+    → (x y z : ℤ) (D : ℕ) (q : Placing) → place_answer u x y z D ≡ Ok q
     → valuing_answer u net corrections uncertainties q
-    ≡ points.Value (record {
+    ≡ Ok (record {
       numerator = c *ℤ pos (scale (degree v) D);
       uncertainty = uncertainty_numerator v (number_at net) (uncertainty_at (sizes u) uncertainties) q;
       denominator = scale (degree v) D;

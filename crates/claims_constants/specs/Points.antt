@@ -1,9 +1,8 @@
 -- Points in a block with one correction throughout: Section 14.5.
-use Rattle.std.specs.Prelude.{false, List, ◌≡◌, ◌<◌, ℕ, ◌*ℤ◌, pos, ℤ, get_or, length, take}
+use Rattle.std.specs.Prelude.{List, Ok, false, get_or, length, pos, take, ℕ, ℤ, ◌*ℤ◌, ◌<◌, ◌≡◌}
 use Rattle.sums.specs.Fill.{number_at}
 use Rattle.spline.specs.Box.{places, width}
 use Rattle.spline.specs.Multiplicities.{Multiplicities, degree}
-use Rattle.checks.specs.declared.Checked.TheVariants.{Passed}
 use Rattle.unit.specs.Gaps.{is_gap}
 use Rattle.unit.specs.Unit.{net_of, sizes}
 use Rattle.unit.specs.declared.Unit.{Unit}
@@ -13,9 +12,9 @@ use Rattle.placing.specs.Place.{position_checks}
 use Rattle.placing.specs.Placing.{placing}
 use Rattle.answers.specs.Bernstein.{uncertainty_numerator}
 use Rattle.answers.specs.Point.{point_answer}
-use Rattle.answers.specs.declared.PointAnswer.TheVariants.{Value}
 use Rattle.claims_nets.specs.Nets.{BuiltOrPassed}
 use Rattle.blended.specs.Blend.{uncertainty_at}
+use Rattle.checks.specs.Checks.{no_refusal}
 
 -- Section 14.5: the first n corrections are all c, and c is not the mark of a gap
 pub record Constant (n : ℕ) (corrections : List ℤ) (c : ℤ) : Type 0 where
@@ -33,12 +32,13 @@ ConstantBlock =
     → (net : List ℕ) → take (places (width v)) net ≡ take (places (width v)) s
     → (corrections : List ℤ) (c : ℤ) → Constant (places (sizes u)) corrections c
     → (uncertainties : List ℕ)
-    → lent_checks u (length net) (length corrections) (length uncertainties) ≡ Passed
-    → (x y z : ℤ) (D : ℕ) → position_checks u x y z D ≡ Passed
+    → lent_checks u (length net) (length corrections) (length uncertainties) ≡ no_refusal
+    → (x y z : ℤ) (D : ℕ) → position_checks u x y z D ≡ no_refusal
     → point_answer u net corrections uncertainties x y z D
-    ≡ Value (record {
+    ≡ Ok (record {
       numerator = c *ℤ pos (scale (degree v) D);
       uncertainty =
-          uncertainty_numerator v (number_at net) (uncertainty_at (sizes u) uncertainties) (placing u x y z D);
+          uncertainty_numerator v (number_at net) (uncertainty_at (sizes u) uncertainties)
+          (placing u x y z D);
       denominator = scale (degree v) D;
     })

@@ -1,20 +1,17 @@
 -- Figures that were worked by hand, of nets, of the largest divisor and of points, as one list: Section 14.6.
-use Rattle.std.specs.Prelude.{List, [], ◌∷◌, ◌≡◌, ℕ, neg_ℤ, pos, ℤ}
+use Rattle.std.specs.Prelude.{Err, List, Ok, Result, [], neg_ℤ, pos, ℕ, ℤ, ◌∷◌, ◌≡◌}
 use Rattle.spline.specs.Box.{net_list, width}
 use Rattle.spline.specs.Build.{order_net, simple}
 use Rattle.spline.specs.Multiplicities.{multiplicities, order_multiplicities}
 use Rattle.spline.specs.Place.{a1, a2, a3, place}
-use Rattle.checks.specs.Checks.{refusal}
-use Rattle.checks.specs.declared.Checked.{Checked}
-use Rattle.checks.specs.declared.Checked.TheVariants.{Passed, Stopped}
 use Rattle.checks.specs.declared.Refusal.{Refusal}
 use Rattle.unit.specs.Unit.{empty_unit, with_block, with_net}
 use Rattle.unit.specs.declared.Unit.{Unit}
 use Rattle.placing.specs.Place.{position_checks}
 use Rattle.answers.specs.Point.{point_answer}
 use Rattle.answers.specs.declared.Fraction.{Fraction}
-use Rattle.answers.specs.declared.PointAnswer.{PointAnswer}
-use Rattle.answers.specs.declared.PointAnswer.TheVariants.{Value}
+use Rattle.checks.specs.Checks.{Checked, no_refusal}
+use Rattle.checks.specs.declared.Refusal.TheVariants.{LargeScale}
 
 -- ---- a figure
 
@@ -95,7 +92,7 @@ abbrev pub checks : Unit → Point → Checked
 checks u p = position_checks u p.x p.y p.z p.divisor
 
 -- what the point call answers
-abbrev pub answer : Lent → Point → PointAnswer
+abbrev pub answer : Lent → Point → Result Fraction Refusal
 answer l p =
     point_answer l.unit l.net l.corrections l.uncertainties p.x p.y p.z p.divisor
 
@@ -104,10 +101,6 @@ answer l p =
 -- N, U and the denominator
 abbrev pub fraction : ℤ → ℕ → ℕ → Fraction
 fraction N U denominator = record { numerator = N; uncertainty = U; denominator = denominator }
-
--- a refusal by its number, which speaks of no place
-abbrev pub by : ℕ → Refusal
-by n = refusal n 0
 
 -- ---- the figures
 
@@ -148,10 +141,10 @@ figures =
     ∷ number order1 at (4, 3, 3) is 1
     ∷ number order4 at (3, 3, 3) is 2
     ∷ number order4 at (2, 3, 4) is 0
-    ∷ checks degree5 at (891, 891, 891) over 297 is Passed
-    ∷ checks degree5 at (894, 894, 894) over 298 is Stopped (by 11)
-    ∷ answer example at (1, 1, 1) over 1 is Value (fraction (+ 100) 5 1)
-    ∷ answer example at (3, 2, 2) over 2 is Value (fraction (+ 60) 10 2)
+    ∷ checks degree5 at (891, 891, 891) over 297 is no_refusal
+    ∷ checks degree5 at (894, 894, 894) over 298 is Err LargeScale
+    ∷ answer example at (1, 1, 1) over 1 is Ok (fraction (+ 100) 5 1)
+    ∷ answer example at (3, 2, 2) over 2 is Ok (fraction (+ 60) 10 2)
     ∷ []
 
 -- Section 14.6: each of these figures follows from the definitions.

@@ -1,17 +1,13 @@
 -- Further figures that were worked by hand, as one list: of faces, gaps, live calls, placings, origins and
 -- files. Section 14.6.
-use Rattle.std.specs.Prelude.{true, List, [], ◌++◌, ◌∷◌, ℕ, pos, ℤ}
+use Rattle.std.specs.Prelude.{Err, List, Ok, Result, [], pos, true, ℕ, ℤ, ◌++◌, ◌∷◌}
 use Rattle.std.specs.Float.{binary64}
 use Rattle.std.specs.Float.Ieee.{of_bits}
 use Rattle.sums.specs.Fill.{tabulate}
 use Rattle.spline.specs.Box.{places, width}
-use Rattle.checks.specs.Checks.{refusal}
-use Rattle.checks.specs.declared.Checked.{Checked}
-use Rattle.checks.specs.declared.Checked.TheVariants.{Passed, Stopped}
 use Rattle.checks.specs.declared.Refusal.{Refusal}
 use Rattle.unit.specs.Unit.{empty_unit, net_of, with_block}
 use Rattle.unit.specs.declared.Unit.{Unit}
-use Rattle.unit.specs.declared.UnitAnswer.{UnitAnswer}
 use Rattle.field.specs.Load.{load_answer, load_checks}
 use Rattle.encoding.specs.Encoding.{encoding}
 use Rattle.divisor_checks.specs.Divisor.{live_divisor_checks}
@@ -19,27 +15,24 @@ use Rattle.axis_order.specs.declared.Placing.{Placing}
 use Rattle.possible.specs.Possible.{placing_checks}
 use Rattle.answers.specs.Live.{live_answer}
 use Rattle.answers.specs.Point.{valuing_answer}
-use Rattle.answers.specs.declared.LiveAnswer.{LiveAnswer}
-use Rattle.answers.specs.declared.PointAnswer.{PointAnswer}
-use Rattle.answers.specs.declared.PointAnswer.TheVariants.{Refused, Value}
+use Rattle.answers.specs.declared.LiveValue.TheVariants.{Both}
 use Rattle.claims_figures.specs.Figures.{+◌, AllHold, Figure, Lent, Point, ◌at◌, ◌is◌, ◌over◌, answer}
-use Rattle.claims_figures.specs.Figures.{by, checks, eight_fives, example, fraction, lent, simple_unit}
+use Rattle.claims_figures.specs.Figures.{checks, eight_fives, example, fraction, lent, simple_unit}
 use Rattle.claims_figures.specs.Figures.{two_entries, unit_with, −◌}
-use Rattle.unit.specs.declared.UnitAnswer.TheVariants as unit
-use Rattle.answers.specs.declared.LiveAnswer.TheVariants as live
-
--- a refusal that speaks of a place
-infix 80 ◌of_entry◌
-abbrev pub ◌of_entry◌ : Refusal → ℕ → Refusal
-r of_entry i = refusal r.number i
+use Rattle.checks.specs.Checks.{Checked, no_refusal, number_of}
+use Rattle.answers.specs.declared.Fraction.{Fraction}
+use Rattle.answers.specs.declared.LiveValue.{LiveValue}
+use Rattle.checks.specs.declared.Refusal.TheVariants.{BadDivisor, BadLength, BadSizes, ImpossiblePlacing}
+use Rattle.checks.specs.declared.Refusal.TheVariants.{LargeLiveScale, LargeScale, LargeUncertainty, NoBlock}
+use Rattle.checks.specs.declared.Refusal.TheVariants.{Outside, ShortFile, UncertainGap, WindowGap}
 
 -- ---- faces
 
 -- one coordinate on the far face, and one before the first cell inside
 abbrev pub face_figures : List Figure
 face_figures =
-    answer example at (2, 1, 1) over 1 is Value (fraction (− 40) 5 1)
-    ∷ answer example at (0, 1, 1) over 1 is Refused (by 12)
+    answer example at (2, 1, 1) over 1 is Ok (fraction (− 40) 5 1)
+    ∷ answer example at (0, 1, 1) over 1 is Err Outside
     ∷ []
 
 -- ---- gaps
@@ -67,17 +60,17 @@ file_checks l =
 
 abbrev pub gap_figures : List Figure
 gap_figures =
-    answer certain_gap at (1, 1, 1) over 1 is Refused (by 13 of_entry 1)
-    ∷ answer gap_of5 at (1, 1, 1) over 1 is Refused (by 13 of_entry 1)
-    ∷ file_checks certain_gap is Passed
-    ∷ file_checks gap_of5 is Stopped (by 16 of_entry 1)
-    ∷ file_checks gap_before40000 is Stopped (by 8 of_entry 7)
+    answer certain_gap at (1, 1, 1) over 1 is Err (WindowGap 1)
+    ∷ answer gap_of5 at (1, 1, 1) over 1 is Err (WindowGap 1)
+    ∷ file_checks certain_gap is no_refusal
+    ∷ file_checks gap_of5 is Err (UncertainGap 1)
+    ∷ file_checks gap_before40000 is Err (LargeUncertainty 7)
     ∷ []
 
 -- ---- live calls
 
 -- what a live call answers, with the uncertainty
-abbrev pub live_call : Lent → Point → LiveAnswer
+abbrev pub live_call : Lent → Point → Result LiveValue Refusal
 live_call l p =
     live_answer l.unit l.net l.corrections l.uncertainties p.x p.y p.z p.divisor true
 
@@ -86,8 +79,8 @@ abbrev pub live_divisor : Lent → ℕ → Checked
 live_divisor l D = live_divisor_checks (net_of l.unit) D
 
 -- N and U by their bits
-abbrev pub floats : ℕ → ℕ → LiveAnswer
-floats N U = live.Both (record { numerator = of_bits binary64 N; uncertainty = of_bits binary64 U })
+abbrev pub floats : ℕ → ℕ → Result LiveValue Refusal
+floats N U = Ok (Both (record { numerator = of_bits binary64 N; uncertainty = of_bits binary64 U }))
 
 -- a block of one entry under a net of degree 5 and of degree 3, with zeros in all slices: no point is inside
 abbrev pub zeros : Unit → Lent
@@ -109,12 +102,12 @@ abbrev pub live_figures : List Figure
 live_figures =
     live_call example at (2, 1, 1) over 1 is floats 0xc044_0000_0000_0000 0x4014_0000_0000_0000
     ∷ live_call example at (1, 2, 1) over 1 is floats 0 0x4014_0000_0000_0000
-    ∷ live_divisor zeros_of_degree5 at 64 is Passed
-    ∷ live_call zeros_of_degree5 at (0, 0, 0) over 64 is live.Refused (by 12)
-    ∷ live_call zeros_of_degree5 at (0, 0, 0) over 65 is live.Refused (by 15)
-    ∷ live_call zeros_of_degree5 at (0, 0, 0) over 298 is live.Refused (by 11)
-    ∷ live_call zeros_of_degree3 at (0, 0, 0) over 2840 is live.Refused (by 12)
-    ∷ live_call zeros_of_degree3 at (0, 0, 0) over 2841 is live.Refused (by 15)
+    ∷ live_divisor zeros_of_degree5 at 64 is no_refusal
+    ∷ live_call zeros_of_degree5 at (0, 0, 0) over 64 is Err Outside
+    ∷ live_call zeros_of_degree5 at (0, 0, 0) over 65 is Err LargeLiveScale
+    ∷ live_call zeros_of_degree5 at (0, 0, 0) over 298 is Err LargeScale
+    ∷ live_call zeros_of_degree3 at (0, 0, 0) over 2840 is Err Outside
+    ∷ live_call zeros_of_degree3 at (0, 0, 0) over 2841 is Err LargeLiveScale
     ∷ []
 
 -- ---- placings
@@ -126,7 +119,7 @@ cell (k1, k2, k3) axes (p, r, s) weights (l0, l1, l2, l3) =
     record { k1 = k1; k2 = k2; k3 = k3; p = p; r = r; s = s; l0 = l0; l1 = l1; l2 = l2; l3 = l3 }
 
 -- what the valuing call answers
-abbrev pub value : Lent → Placing → PointAnswer
+abbrev pub value : Lent → Placing → Result Fraction Refusal
 value l q = valuing_answer l.unit l.net l.corrections l.uncertainties q
 
 abbrev pub block322 : Unit
@@ -141,16 +134,17 @@ no_block = unit_with (1, 1, 1, 1) (0, 2, 2)
 -- Then the values at the placings of two points
 abbrev pub placing_figures : List Figure
 placing_figures =
-    placing_checks block322 at cell (2, 1, 1) axes (1, 2, 3) weights (0, 1, 1, 0) is Passed
-    ∷ placing_checks block322 at cell (1, 1, 1) axes (1, 2, 3) weights (0, 1, 1, 0) is Stopped (by 17)
-    ∷ placing_checks block322 at cell (1, 1, 1) axes (1, 3, 2) weights (1, 1, 0, 0) is Stopped (by 17)
-    ∷ placing_checks block322 at cell (3, 1, 1) axes (1, 2, 3) weights (1, 1, 0, 0) is Stopped (by 17)
-    ∷ placing_checks block322 at cell (1, 1, 1) axes (1, 2, 3) weights (0, 0, 0, 0) is Stopped (by 17)
-    ∷ placing_checks block322 at cell (1, 1, 1) axes (1, 2, 3) weights (4294967295, 3, 0, 0) is Stopped (by 17)
-    ∷ placing_checks block322 at cell (1, 1, 1) axes (1, 1, 3) weights (1, 1, 0, 0) is Stopped (by 17)
-    ∷ placing_checks no_block at cell (1, 1, 1) axes (1, 1, 3) weights (1, 1, 0, 0) is Stopped (by 22)
-    ∷ value example at cell (1, 1, 1) axes (1, 2, 3) weights (1, 1, 0, 0) is Value (fraction (+ 60) 10 2)
-    ∷ value example at cell (1, 1, 1) axes (1, 2, 3) weights (0, 1, 0, 0) is Value (fraction (− 40) 5 1)
+    placing_checks block322 at cell (2, 1, 1) axes (1, 2, 3) weights (0, 1, 1, 0) is no_refusal
+    ∷ placing_checks block322 at cell (1, 1, 1) axes (1, 2, 3) weights (0, 1, 1, 0) is Err ImpossiblePlacing
+    ∷ placing_checks block322 at cell (1, 1, 1) axes (1, 3, 2) weights (1, 1, 0, 0) is Err ImpossiblePlacing
+    ∷ placing_checks block322 at cell (3, 1, 1) axes (1, 2, 3) weights (1, 1, 0, 0) is Err ImpossiblePlacing
+    ∷ placing_checks block322 at cell (1, 1, 1) axes (1, 2, 3) weights (0, 0, 0, 0) is Err ImpossiblePlacing
+    ∷ placing_checks block322 at cell (1, 1, 1) axes (1, 2, 3)
+    weights (4294967295, 3, 0, 0) is Err ImpossiblePlacing
+    ∷ placing_checks block322 at cell (1, 1, 1) axes (1, 1, 3) weights (1, 1, 0, 0) is Err ImpossiblePlacing
+    ∷ placing_checks no_block at cell (1, 1, 1) axes (1, 1, 3) weights (1, 1, 0, 0) is Err NoBlock
+    ∷ value example at cell (1, 1, 1) axes (1, 2, 3) weights (1, 1, 0, 0) is Ok (fraction (+ 60) 10 2)
+    ∷ value example at cell (1, 1, 1) axes (1, 2, 3) weights (0, 1, 0, 0) is Ok (fraction (− 40) 5 1)
     ∷ []
 
 -- ---- origins
@@ -180,21 +174,21 @@ lowest_origin = simple_unit moved_to (− 32768, + 0, + 0)
 -- block, and the end of 32 bits that is farthest from it
 abbrev pub origin_figures : List Figure
 origin_figures =
-    answer moved at (− 1, + 0, + 6) over± 1 is Value (fraction (+ 100) 5 1)
-    ∷ answer moved at (− 1, + 0, + 12) over± 2 is Value (fraction (+ 60) 10 2)
-    ∷ answer moved at (+ 0, + 0, + 6) over± 1 is Value (fraction (− 40) 5 1)
-    ∷ checks moved.unit at (− 3, + 0, + 6) over± 1 is Stopped (by 12)
-    ∷ checks moved.unit at (− 3, + 0, + 6) over± 0 is Stopped (by 10)
-    ∷ checks highest_origin at (+ 134217728, + 4096, + 4096) over± 4096 is Passed
-    ∷ checks highest_origin at (− 2147483648, + 4096, + 4096) over± 4096 is Stopped (by 12)
-    ∷ checks lowest_origin at (− 134213632, + 4096, + 4096) over± 4096 is Passed
-    ∷ checks lowest_origin at (+ 2147483647, + 4096, + 4096) over± 4096 is Stopped (by 12)
+    answer moved at (− 1, + 0, + 6) over± 1 is Ok (fraction (+ 100) 5 1)
+    ∷ answer moved at (− 1, + 0, + 12) over± 2 is Ok (fraction (+ 60) 10 2)
+    ∷ answer moved at (+ 0, + 0, + 6) over± 1 is Ok (fraction (− 40) 5 1)
+    ∷ checks moved.unit at (− 3, + 0, + 6) over± 1 is Err Outside
+    ∷ checks moved.unit at (− 3, + 0, + 6) over± 0 is Err BadDivisor
+    ∷ checks highest_origin at (+ 134217728, + 4096, + 4096) over± 4096 is no_refusal
+    ∷ checks highest_origin at (− 2147483648, + 4096, + 4096) over± 4096 is Err Outside
+    ∷ checks lowest_origin at (− 134213632, + 4096, + 4096) over± 4096 is no_refusal
+    ∷ checks lowest_origin at (+ 2147483647, + 4096, + 4096) over± 4096 is Err Outside
     ∷ []
 
 -- ---- files
 
 -- what an empty unit answers when these bytes are loaded into slices of 8
-abbrev pub load : List ℕ → UnitAnswer
+abbrev pub load : List ℕ → Result Unit Refusal
 load bytes = load_answer empty_unit bytes (tabulate (λ i. pos 0) 8) eight_fives
 
 -- one entry, 7 with uncertainty 5, and the origin −2, 300, −32768
@@ -217,11 +211,11 @@ twelve_bytes = 0 ∷ 0 ∷ 1 ∷ 0 ∷ 1 ∷ 0 ∷ 0 ∷ 0 ∷ 0 ∷ 0 ∷ 0 ∷
 
 abbrev pub file_figures : List Figure
 file_figures =
-    load one_entry is unit.Changed (with_block empty_unit 1 1 1 (− 2) (+ 300) (− 32768))
-    ∷ load old_one_entry is unit.Refused (by 5)
-    ∷ load old_two_entries is unit.Refused (by 7)
-    ∷ load eleven_bytes is unit.Refused (by 5)
-    ∷ load twelve_bytes is unit.Refused (by 6)
+    load one_entry is Ok (with_block empty_unit 1 1 1 (− 2) (+ 300) (− 32768))
+    ∷ load old_one_entry is Err ShortFile
+    ∷ load old_two_entries is Err BadLength
+    ∷ load eleven_bytes is Err ShortFile
+    ∷ load twelve_bytes is Err BadSizes
     ∷ []
 
 -- ---- all of them

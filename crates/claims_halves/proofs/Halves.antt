@@ -16,7 +16,6 @@ use Rattle.spline.specs.Box.{index, net_list, place_of, places}
 use Rattle.spline.specs.Build.{order_net}
 use Rattle.spline.specs.Multiplicities.{degree, more}
 use Rattle.spline.specs.Place.{Axis, Place, a1, a2, a3, place}
-use Rattle.checks.specs.declared.Checked.TheVariants.{Passed}
 use Rattle.shape.proofs.Shapes.{shape-widths}
 use Rattle.differences.specs.Pass.{difference}
 use Rattle.claims_halves.specs.Halves.{FirstHalf, HalvesInTurn, Repeat, RepeatsInTurn, SecondHalf}
@@ -30,6 +29,7 @@ use Rattle.builds.specs.Build.{build_net}
 use Rattle.orders.specs.Inner.GoodOrder.{GoodOrder}
 use Rattle.orders.specs.Order.{bad_byte, build_checks}
 use Rattle.builds.specs.Repeat.{net_repeated, work_between}
+use Rattle.checks.specs.Checks.{no_refusal}
 
 -- the first k bytes of a good order are a good order
 prefix-good : (order : List ℕ) (k : ℕ) → k ≤ length order → GoodOrder order → GoodOrder (take k order)
@@ -43,12 +43,12 @@ prefix-good order k l good =
     }
 
 module _ (order net : List ℕ) (work : List ℤ)
-    (h : build_checks order (length net) (length work) ≡ Passed) where
+    (h : build_checks order (length net) (length work) ≡ no_refusal) where
   abbrev room : BuildAccepted order (length net) (length work)
   room = build-accepted order (length net) (length work) h
 
   -- a build of the first k bytes is not refused either
-  passes : (k : ℕ) → k ≤ length order → build_checks (take k order) (length net) (length work) ≡ Passed
+  passes : (k : ℕ) → k ≤ length order → build_checks (take k order) (length net) (length work) ≡ no_refusal
   passes k l =
       build-passes (take k order) (length net) (length work)
       (record {

@@ -1,21 +1,22 @@
 -- The two halves of a repeat, each as closed statements: Section 14.11.
-use Rattle.std.specs.Prelude.{List, ◌↔◌, ◌≡◌, ◌+◌, ◌<◌, ◌≤◌, suc, zero, ℕ, negsuc, pos, ℤ, get_or, length, take}
+use Rattle.std.specs.Prelude.{List, ◌↔◌, ◌≡◌, ◌+◌, ◌<◌, ◌≤◌, suc, zero, ℕ, negsuc, pos, ℤ, get_or, length}
+use Rattle.std.specs.Prelude.{take}
 use Rattle.spline.specs.Box.{index, width}
 use Rattle.spline.specs.Build.{direction, order_net}
 use Rattle.spline.specs.Multiplicities.{Multiplicities, degree, more, order_multiplicities}
 use Rattle.spline.specs.Place.{Axis, Direction, Place, ◌⊖◌, a1, a2, a3, along, diagonal, place}
 use Rattle.spline.specs.Rule.{rule_right}
-use Rattle.checks.specs.declared.Checked.TheVariants.{Passed}
 use Rattle.edges.specs.Lines.{edge_sum, steps_to_edge}
 use Rattle.builds.specs.Build.{build_net}
 use Rattle.orders.specs.Order.{build_checks}
 use Rattle.builds.specs.Repeat.{net_repeated, taken_up, work_between}
+use Rattle.checks.specs.Checks.{no_refusal}
 
 -- ---- a repeat of an order
 
 -- a build that is not refused, and the position t of one of its order's bytes
 pub record Repeat (order net : List ℕ) (work : List ℤ) (t : ℕ) : Type 0 where
-  pub accepted : build_checks order (length net) (length work) ≡ Passed
+  pub accepted : build_checks order (length net) (length work) ≡ no_refusal
   pub byte : t < length order
 
 -- the direction of byte t
@@ -74,7 +75,7 @@ HalvesInTurn =
 -- The halves of all bytes in turn lead from the simple net to what the build leaves, in the whole net slice.
 abbrev pub RepeatsInTurn : Type 0
 RepeatsInTurn =
-    (order net : List ℕ) (work : List ℤ) → build_checks order (length net) (length work) ≡ Passed
+    (order net : List ℕ) (work : List ℤ) → build_checks order (length net) (length work) ≡ no_refusal
     → (taken_up order net work).net ≡ build_net order net (length work)
 
 -- ---- where a line begins

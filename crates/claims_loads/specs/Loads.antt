@@ -1,15 +1,15 @@
 -- Loads: what a loaded file gives back, and which files are refused. Section 14.8.
-use Rattle.std.specs.Prelude.{cond, true, List, ◌++◌, ◌↔◌, ◌≡◌, ◌*◌, ◌+◌, ◌<◌, ◌≤◌, ℕ, eqb, negsuc, ℤ, drop, get_or, length}
-use Rattle.checks.specs.Checks.{refusal}
-use Rattle.checks.specs.declared.Checked.TheVariants.{Passed}
+use Rattle.std.specs.Prelude.{Err, List, Ok, cond, drop, eqb, get_or, length, negsuc, true, ℕ, ℤ}
+use Rattle.std.specs.Prelude.{◌*◌, ◌++◌, ◌+◌, ◌<◌, ◌↔◌, ◌≡◌, ◌≤◌}
 use Rattle.allowed.specs.Allowed.{sizes_allowed}
 use Rattle.unit.specs.Unit.{with_block}
 use Rattle.unit.specs.declared.Unit.{Unit}
-use Rattle.unit.specs.declared.UnitAnswer.TheVariants.{Changed, Refused}
 use Rattle.file.specs.File.{correction, entry_count, size1, size2, size3, uncertainty}
 use Rattle.file_checks.specs.FileChecks.{layout_checks}
 use Rattle.field.specs.Load.{load_answer, load_corrections, load_uncertainties}
 use Rattle.encoding.specs.Encoding.{WithinLimits, encoding}
+use Rattle.checks.specs.Checks.{no_refusal}
+use Rattle.checks.specs.declared.Refusal.TheVariants.{BadLength, LargeUncertainty, ShortFile, UncertainGap}
 
 -- ---- what a load equals
 
@@ -24,7 +24,7 @@ LoadGivesBack =
     ((i : ℕ) → get_or file i 0 < 256)
     × ((u : Unit) (corrections : List ℤ) (uncertainties : List ℕ)
     → n ≤ length corrections → n ≤ length uncertainties
-    → (load_answer u file corrections uncertainties ≡ Changed (with_block u n1 n2 n3 o1 o2 o3))
+    → (load_answer u file corrections uncertainties ≡ Ok (with_block u n1 n2 n3 o1 o2 o3))
     × (load_corrections file corrections uncertainties ≡ cs ++ drop n corrections)
     × (load_uncertainties file corrections uncertainties ≡ us ++ drop n uncertainties)))
 
@@ -38,7 +38,7 @@ OldLayout =
     → sizes_allowed (size1 file) (size2 file) (size3 file) ≡ true
     → (let n = entry_count file in
     length file ≡ 6 + 4 * n
-    → (load_answer u file corrections uncertainties ≡ Refused (refusal (cond (eqb n 1) 5 7) 0))
+    → (load_answer u file corrections uncertainties ≡ Err (cond (eqb n 1) ShortFile BadLength))
     × (load_corrections file corrections uncertainties ≡ corrections)
     × (load_uncertainties file corrections uncertainties ≡ uncertainties))
 
@@ -63,15 +63,15 @@ GapWithUncertainty file i = (correction file i ≡ negsuc 32767) × (0 < uncerta
 abbrev pub LoadEight : Type 0
 LoadEight =
     (u : Unit) (file : List ℕ) (corrections : List ℤ) (uncertainties : List ℕ) (i : ℕ)
-    → (load_answer u file corrections uncertainties ≡ Refused (refusal 8 i))
-    ↔ ((layout_checks file ≡ Passed) × IsLowest (entry_count file) (OverLimit file) i)
+    → (load_answer u file corrections uncertainties ≡ Err (LargeUncertainty i))
+    ↔ ((layout_checks file ≡ no_refusal) × IsLowest (entry_count file) (OverLimit file) i)
 
 -- It is refused by 16 exactly where none of 5, 6, 7 applies, no uncertainty of the file is over the limit and
 -- a gap has one, at the lowest such entry.
 abbrev pub LoadSixteen : Type 0
 LoadSixteen =
     (u : Unit) (file : List ℕ) (corrections : List ℤ) (uncertainties : List ℕ) (i : ℕ)
-    → (load_answer u file corrections uncertainties ≡ Refused (refusal 16 i))
-    ↔ ((layout_checks file ≡ Passed)
+    → (load_answer u file corrections uncertainties ≡ Err (UncertainGap i))
+    ↔ ((layout_checks file ≡ no_refusal)
     × ((j : ℕ) → j < entry_count file → OverLimit file j → ⊥)
     × IsLowest (entry_count file) (GapWithUncertainty file) i)

@@ -13,11 +13,11 @@ use Rattle.spline.proofs.Multiplicities.{counts-decide, order-degree}
 use Rattle.spline.specs.Build.{direction}
 use Rattle.spline.specs.Multiplicities.{count, degree, order_multiplicities, same_direction}
 use Rattle.spline.specs.Place.{Direction, a1, a2, a3, along, diagonal}
-use Rattle.checks.specs.declared.Checked.TheVariants.{Passed}
 use Rattle.orders.proofs.Orders.{good-byte}
 use Rattle.orders.specs.Inner.GoodOrder.{GoodOrder}
 use Rattle.orders.specs.Order.{bad_byte, order_checks}
 use Rattle.claims_nets.specs.Nets.{count_byte}
+use Rattle.checks.specs.Checks.{no_refusal}
 
 -- ---- directions
 
@@ -86,7 +86,7 @@ count-has b (x ∷ order) h = go (eqb b x) refl (λ k. count-has b order k)
 -- ---- equal counts
 
 -- an order to which neither 1 nor 2 applies passes
-pub order-passes : (order : List ℕ) → GoodOrder order → order_checks order ≡ Passed
+pub order-passes : (order : List ℕ) → GoodOrder order → order_checks order ≡ no_refusal
 unfolding order_checks
 order-passes order good = simp (le-ltb 8 (length order) good.short, good.good)
 

@@ -8,11 +8,7 @@ use Rattle.spline.proofs.Box.{length-net_list}
 use Rattle.spline.specs.Box.{width}
 use Rattle.spline.specs.Defined.{defined}
 use Rattle.spline.specs.Multiplicities.{allowed}
-use Rattle.checks.specs.Checks.{passed_or}
-use Rattle.checks.specs.declared.Checked.{Checked}
-use Rattle.unit.proofs.Answers.{unit-changed}
 use Rattle.unit.specs.Unit.{holds_net, with_net}
-use Rattle.unit.specs.declared.UnitAnswer.TheVariants.{Changed, Refused}
 use Rattle.builds.specs.Build.{build_answer}
 use Rattle.orders.specs.Order.{build_checks}
 use Rattle.factory.proofs.Accepted.{factory-passes, factory-stops}
@@ -23,12 +19,15 @@ use Rattle.claims_nets.proofs.Inspections.{holds-passes}
 use Rattle.claims_nets.proofs.Orders.{built-holds}
 use Rattle.claims_nets.specs.Factory.{FactoryAsBuilt, FactoryCopies, FactoryInspected, FactoryShort}
 use Rattle.claims_nets.specs.Factory.{factory_order}
+use Rattle.checks.specs.Checks.{Checked, passed_or}
+use Rattle.std.specs.Prelude.{Err, Ok}
+use Rattle.checks.proofs.Checks.{made-by}
 
 pub factory-copies : FactoryCopies
 unfolding factory_answer holds_net allowed
 factory-copies u net room =
     let h = factory-passes (length net) (omega arith) in (
-      ap (λ (c : Checked). passed_or c (Changed (with_net u factory_shape)) Refused) h,
+      ap (λ (c : Checked). passed_or c (Ok (with_net u factory_shape)) Err) h,
       refl,
       copied-holds net h,
       ap (drop factory_places) (copied-net net h)
@@ -43,9 +42,9 @@ factory-short u net short = let e = factory-stops (length net) (omega arith) in 
 pub factory-as-built : FactoryAsBuilt
 unfolding factory_answer build_answer
 factory-as-built u after₁ after₂ net₁ net₂ work_length copies builds =
-    let c = unit-changed (factory_checks (length net₁)) (with_net u factory_shape) copies in
+    let c = made-by (factory_checks (length net₁)) (with_net u factory_shape) copies in
     let checks = build_checks factory_order (length net₂) work_length in
-    let b = unit-changed checks (with_net u factory_shape) builds in (
+    let b = made-by checks (with_net u factory_shape) builds in (
       c.1 ∙ sym b.1,
       copied-holds net₁ c.0 ∙ sym (built-holds factory_order net₂ work_length b.0),
     )

@@ -12,13 +12,9 @@ use Rattle.spline.specs.Box.{net_list, places}
 use Rattle.spline.specs.Build.{direction, order_net}
 use Rattle.spline.specs.Multiplicities.{Multiplicities, order_multiplicities}
 use Rattle.spline.specs.Place.{Axis, Net}
-use Rattle.checks.specs.Checks.{passed_or}
-use Rattle.checks.specs.declared.Checked.{Checked}
-use Rattle.checks.specs.declared.Checked.TheVariants.{Passed}
 use Rattle.allowed.proofs.Limits.{limits-allowed}
 use Rattle.unit.specs.Unit.{holds_net, with_net}
 use Rattle.unit.specs.declared.Unit.{Unit}
-use Rattle.unit.specs.declared.UnitAnswer.TheVariants.{Changed, Refused}
 use Rattle.claims_rule.specs.Rule.{HoldsDefined}
 use Rattle.claims_nets.proofs.Bytes.{order-passes, same_good, same-multiplicities}
 use Rattle.claims_nets.specs.Nets.{BuildsDefined, Orders}
@@ -27,6 +23,8 @@ use Rattle.orders.proofs.Orders.{limits-le, order-limits}
 use Rattle.builds.specs.Build.{build_answer, build_net}
 use Rattle.orders.specs.Inner.GoodOrder.{GoodOrder}
 use Rattle.orders.specs.Order.{build_checks, order_places, order_width}
+use Rattle.checks.specs.Checks.{Checked, no_refusal, passed_or}
+use Rattle.std.specs.Prelude.{Err, Ok}
 
 -- a slice whose box was filled with a net begins with its list
 pub laid : (W : Axis → ℕ) (C : Net) (net : List ℕ)
@@ -34,7 +32,8 @@ pub laid : (W : Axis → ℕ) (C : Net) (net : List ℕ)
 laid W C net = take_at (net_list W C) (drop (places W) net) (places W) (length-net_list W C)
 
 -- a build that passed its checks leaves what the order builds in the first places of the net slice
-pub built-list : (order net : List ℕ) (work_length : ℕ) → build_checks order (length net) work_length ≡ Passed
+pub built-list : (order net : List ℕ) (work_length : ℕ)
+    → build_checks order (length net) work_length ≡ no_refusal
     → take (places (order_width order)) (build_net order net work_length)
     ≡ net_list (order_width order) (order_net order)
 unfolding build_net
@@ -45,10 +44,12 @@ built-list order net work_length h =
     ∙ laid w (order_net order) net
 
 -- which is the defined net of the order's multiplicities
-pub built-holds : (order net : List ℕ) (work_length : ℕ) → build_checks order (length net) work_length ≡ Passed
+pub built-holds : (order net : List ℕ) (work_length : ℕ)
+    → build_checks order (length net) work_length ≡ no_refusal
     → HoldsDefined (order_multiplicities order) (build_net order net work_length)
 built-holds order net work_length h =
-    built-list order net work_length h ∙ ap (net_list (order_width order)) (order-defined (map direction order))
+    built-list order net work_length h
+    ∙ ap (net_list (order_width order)) (order-defined (map direction order))
 
 -- a unit with the net of a good order has a net
 order-held : (order : List ℕ) (u : Unit) → GoodOrder order
@@ -68,7 +69,7 @@ builds u order net work_length good n w =
     = record { good = good; net-room = n; work-room = w } in
     let h = build-passes order (length net) work_length r in
     record {
-      answered = ap (λ (c : Checked). passed_or c (Changed (with_net u (order_multiplicities order))) Refused) h;
+      answered = ap (λ (c : Checked). passed_or c (Ok (with_net u (order_multiplicities order))) Err) h;
       has_net = order-held order u good;
       holds = built-holds order net work_length h;
     }

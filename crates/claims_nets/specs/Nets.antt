@@ -1,39 +1,38 @@
 -- Nets that are built: what the step rule says of them, in what order repeats may be taken up, and what a
 -- call that sets a net keeps. Sections 14.2, 14.3, 14.12.
-use Rattle.std.specs.Prelude.{cond, true, List, [], ◌∷◌, map, ◌↔◌, ◌≡◌, ◌≤◌, suc, ℕ, eqb, length}
+use Rattle.std.specs.Prelude.{List, Ok, Result, [], cond, eqb, length, map, suc, true, ℕ, ◌↔◌, ◌∷◌, ◌≡◌, ◌≤◌}
 use Rattle.spline.specs.Box.{spread, width}
 use Rattle.spline.specs.Build.{Follows, direction, simple}
 use Rattle.spline.specs.Defined.{defined_order}
 use Rattle.spline.specs.Multiplicities.{Multiplicities, order_multiplicities}
 use Rattle.spline.specs.Place.{Net, Place}
-use Rattle.checks.specs.declared.Checked.TheVariants.{Passed}
 use Rattle.unit.specs.Unit.{holds_net, with_net}
 use Rattle.unit.specs.declared.Unit.{Unit}
-use Rattle.unit.specs.declared.UnitAnswer.{UnitAnswer}
-use Rattle.unit.specs.declared.UnitAnswer.TheVariants.{Changed}
 use Rattle.builds.specs.Build.{build_answer, build_net}
 use Rattle.orders.specs.Order.{build_checks, order_checks, order_places, order_width}
 use Rattle.inspection.specs.Inspect.{inspect_answer, inspect_checks}
 use Rattle.factory.specs.Factory.{factory_answer, factory_checks, factory_net, factory_shape}
 use Rattle.claims_rule.specs.Rule.{HoldsDefined}
+use Rattle.checks.specs.Checks.{no_refusal}
+use Rattle.checks.specs.declared.Refusal.{Refusal}
 
 -- ---- nets that calls leave
 
 -- Section 14.3: a build that is not refused. Its answer is the unit with a net of these multiplicities, this
 -- counts as having a net, and the net slice then holds the defined net.
 pub record BuildsDefined (v : Multiplicities) (u : Unit) (order net : List ℕ) (work_length : ℕ) : Type 0 where
-  pub answered : build_answer u order (length net) work_length ≡ Changed (with_net u v)
+  pub answered : build_answer u order (length net) work_length ≡ Ok (with_net u v)
   pub has_net : holds_net (with_net u v) ≡ true
   pub holds : HoldsDefined v (build_net order net work_length)
 
 -- Section 14.5: the multiplicities and the numbers of a net that was built or passed, the net slice after a
 -- build or at an inspection that was not refused. The factory's net counts as built where it was copied.
 pub data BuiltOrPassed : Multiplicities → List ℕ → Type 0 where
-  built : (order net : List ℕ) (work_length : ℕ) → build_checks order (length net) work_length ≡ Passed
+  built : (order net : List ℕ) (work_length : ℕ) → build_checks order (length net) work_length ≡ no_refusal
       → BuiltOrPassed (order_multiplicities order) (build_net order net work_length)
   passed : (v : Multiplicities) (net : List ℕ) (defined_length work_length : ℕ)
-      → inspect_checks v net defined_length work_length ≡ Passed → BuiltOrPassed v net
-  copied : (net : List ℕ) → factory_checks (length net) ≡ Passed
+      → inspect_checks v net defined_length work_length ≡ no_refusal → BuiltOrPassed v net
+  copied : (net : List ℕ) → factory_checks (length net) ≡ no_refusal
       → BuiltOrPassed factory_shape (factory_net net)
 
 -- ---- the rule
@@ -44,7 +43,7 @@ pub data BuiltOrPassed : Multiplicities → List ℕ → Type 0 where
 abbrev pub Written : Type 0
 Written =
     (order net : List ℕ) (work_length : ℕ)
-    → build_checks order (length net) work_length ≡ Passed
+    → build_checks order (length net) work_length ≡ no_refusal
     → (R : Net)
     → Follows (map direction order) 1 simple R
     ↔ ((q : Place) → spread (order_width order) (build_net order net work_length) q ≡ R q)
@@ -71,12 +70,12 @@ count_byte b (x ∷ xs) = cond (eqb b x) (suc (count_byte b xs)) (count_byte b x
 abbrev pub Orders : Type 0
 Orders =
     (order₁ order₂ : List ℕ)
-    → order_checks order₁ ≡ Passed
+    → order_checks order₁ ≡ no_refusal
     → ((b : ℕ) → count_byte b order₁ ≡ count_byte b order₂)
     → (u₁ u₂ : Unit) (net₁ net₂ : List ℕ) (work_length₁ work_length₂ : ℕ)
     → order_places order₁ ≤ length net₁ → order_places order₁ ≤ work_length₁
     → order_places order₂ ≤ length net₂ → order_places order₂ ≤ work_length₂
-    → (order_checks order₂ ≡ Passed)
+    → (order_checks order₂ ≡ no_refusal)
     × BuildsDefined (order_multiplicities order₁) u₁ order₁ net₁ work_length₁
     × BuildsDefined (order_multiplicities order₁) u₂ order₂ net₂ work_length₂
 
@@ -96,7 +95,7 @@ pub record SameBlock (u after : Unit) : Type 0 where
 abbrev pub BlockKept : Type 0
 BlockKept =
     (u after : Unit)
-    → (let Keeps : UnitAnswer → Type 0 = λ answer. answer ≡ Changed after → SameBlock u after in
+    → (let Keeps : Result Unit Refusal → Type 0 = λ answer. answer ≡ Ok after → SameBlock u after in
     ((order : List ℕ) (net_length work_length : ℕ) → Keeps (build_answer u order net_length work_length))
     × ((v : Multiplicities) (net : List ℕ) (defined_length work_length : ℕ)
     → Keeps (inspect_answer u v net defined_length work_length))

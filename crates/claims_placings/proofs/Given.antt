@@ -10,8 +10,6 @@ use Rattle.sums.proofs.Search.{false-true}
 use Rattle.sums.proofs.Signed.{abs-add, mag-le}
 use Rattle.spline.specs.Place.{a1, a2, a3}
 use Rattle.checks.proofs.Checks.{stopped-passed}
-use Rattle.checks.specs.Checks.{refusal, refuse_if}
-use Rattle.checks.specs.declared.Checked.TheVariants.{Passed, Stopped}
 use Rattle.unit.specs.Unit.{holds_block, holds_net}
 use Rattle.unit.specs.declared.Unit.{Unit}
 use Rattle.limits.specs.Limits.{unit_checks}
@@ -23,37 +21,41 @@ use Rattle.possible.proofs.FieldTests.{is-possible, possible-is}
 use Rattle.possible.proofs.GivenBack.{coordinate, distance_on, distances-small, given_back}
 use Rattle.possible.proofs.PlacedPossible.{placed-possible}
 use Rattle.possible.specs.Possible.{placing_checks, possible}
-use Rattle.chains.proofs.Stopped.{Never, if-never, passed-never, then-second}
+use Rattle.chains.proofs.Stopped.{Never, if-never, passed-never, placeless, then-second}
 use Rattle.claims_placings.specs.Given.{GivenAt, NeverGiven, OriginFits}
+use Rattle.checks.specs.Checks.{no_refusal, refuse_if}
+use Rattle.std.specs.Prelude.{Err}
+use Rattle.checks.specs.declared.Refusal.TheVariants.{ImpossiblePlacing, NoBlock, NoNet}
 
 -- the checks of the unit are not 17
-unit-never : (u : Unit) → Never 17 (unit_checks u)
+unit-never : (u : Unit) → Never (placeless ImpossiblePlacing) (unit_checks u)
 unfolding unit_checks
 unit-never u =
-    if-never 21 17 (not (holds_net u)) _ (λ e. omega arith)
-    (if-never 22 17 (not (holds_block u)) Passed (λ e. omega arith) (passed-never 17))
+    if-never NoNet (placeless ImpossiblePlacing) (not (holds_net u)) _ (λ _ e. omega arith)
+    (if-never NoBlock (placeless ImpossiblePlacing) (not (holds_block u)) no_refusal (λ _ e. omega arith)
+    (passed-never (placeless ImpossiblePlacing)))
 
 module _ (u : Unit) (q : Placing) where
   -- one that is not possible is stopped by 17
-  pub impossible-stopped : unit_checks u ≡ Passed → possible u q ≡ false
-      → placing_checks u q ≡ Stopped (refusal 17 0)
+  pub impossible-stopped : unit_checks u ≡ no_refusal → possible u q ≡ false
+      → placing_checks u q ≡ Err ImpossiblePlacing
   unfolding placing_checks
   impossible-stopped e h = rw (e, h) refl
 
   -- and one that is stopped so is not possible
-  stopped-impossible : placing_checks u q ≡ Stopped (refusal 17 0)
-      → (unit_checks u ≡ Passed) × (possible u q ≡ false)
+  stopped-impossible : placing_checks u q ≡ Err ImpossiblePlacing
+      → (unit_checks u ≡ no_refusal) × (possible u q ≡ false)
   unfolding placing_checks
   stopped-impossible h =
-      let t = then-second 17 0 (unit_checks u) _ (unit-never u) h in
+      let t = then-second (placeless ImpossiblePlacing) 0 (unit_checks u) _ (unit-never u) h in
       (t.0, go (possible u q) t.1)
     where
-      go : (b : Bool) → refuse_if 17 (not b) Passed ≡ Stopped (refusal 17 0) → b ≡ false
-      go true k = stopped-passed (refusal 17 0) (sym k)
+      go : (b : Bool) → refuse_if ImpossiblePlacing (not b) no_refusal ≡ Err ImpossiblePlacing → b ≡ false
+      go true k = stopped-passed ImpossiblePlacing (sym k)
       go false k = refl
 
   -- it is stopped exactly where no point gives it
-  pub stopped-never : (placing_checks u q ≡ Stopped (refusal 17 0)) ↔ NeverGiven u q
+  pub stopped-never : (placing_checks u q ≡ Err ImpossiblePlacing) ↔ NeverGiven u q
   stopped-never = (
     λ h.
         let t = stopped-impossible h in
@@ -67,7 +69,7 @@ module _ (u : Unit) (q : Placing) where
     λ n. go n (possible u q) refl,
   )
     where
-      go : NeverGiven u q → (b : Bool) → possible u q ≡ b → placing_checks u q ≡ Stopped (refusal 17 0)
+      go : NeverGiven u q → (b : Bool) → possible u q ≡ b → placing_checks u q ≡ Err ImpossiblePlacing
       go n true e = absurd (n.at_no_point _ _ _ _ (given_back u q n.equipped (is-possible u q e)))
       go n false e = impossible-stopped n.equipped e
 
@@ -80,7 +82,7 @@ coordinate-fits t o D near few fits =
     omega (arith, mag-le (pos t +ℤ o *ℤ pos D))
 
 -- a placing that is possible is that of a point whose numbers a caller can hand in
-pub possible-given : (u : Unit) (q : Placing) → unit_checks u ≡ Passed → OriginFits u → possible u q ≡ true
+pub possible-given : (u : Unit) (q : Placing) → unit_checks u ≡ no_refusal → OriginFits u → possible u q ≡ true
     → GivenAt u q
 possible-given u q e origin h =
     let p = is-possible u q h in

@@ -7,8 +7,6 @@ use native.Mathlib.Omega.{arith}
 use lib.IntN.{◌*ℤ◌, ◌+ℤ◌, ◌-ℤ◌, nat_abs, negsuc, pos, ℤ}
 use lib.Signed.{◌<ℤ◌, clash_ℤ, non_neg}
 use Rattle.sums.proofs.Signed.{Is, down, is-add, is-diff, is_mul, is_pos, le_is, own, same, up}
-use Rattle.checks.specs.Checks.{and_then}
-use Rattle.checks.specs.declared.Checked.{Checked}
 use Rattle.unit.specs.Unit.{net_of, sizes}
 use Rattle.unit.specs.declared.Unit.{Unit}
 use Rattle.coordinates.specs.Coordinates.{sign_check, from_origin}
@@ -17,6 +15,7 @@ use Rattle.axis_order.specs.declared.Placing.{Placing}
 use Rattle.placing.specs.Place.{inside_check, place_answer, position_checks}
 use Rattle.placing.specs.Placing.{block_cells, block_placing, placing}
 use Rattle.claims_placings.specs.Origins.{AtZero, BeforeOrigin, EmptyAtZero, moved_by, shifted}
+use Rattle.checks.specs.Checks.{Checked, and_then}
 
 -- ---- by what is read of the coordinates
 

@@ -1,13 +1,12 @@
 -- The origin of a block, as far as a placing takes it up: Section 14.12.
-use Rattle.std.specs.Prelude.{◌⊎◌, ◌≡◌, ℕ, ◌*ℤ◌, ◌+ℤ◌, pos, ℤ, ◌<ℤ◌}
-use Rattle.checks.specs.Checks.{refusal}
-use Rattle.checks.specs.declared.Checked.TheVariants.{Passed}
+use Rattle.std.specs.Prelude.{Err, pos, ℕ, ℤ, ◌*ℤ◌, ◌+ℤ◌, ◌<ℤ◌, ◌≡◌, ◌⊎◌}
 use Rattle.unit.specs.Unit.{empty_unit, net_of}
 use Rattle.unit.specs.declared.Unit.{Unit}
 use Rattle.limits.specs.Limits.{unit_checks}
 use Rattle.divisor_checks.specs.Divisor.{divisor_checks}
 use Rattle.placing.specs.Place.{place_answer}
-use Rattle.placing.specs.declared.PlacingAnswer.TheVariants.{Refused}
+use Rattle.checks.specs.Checks.{no_refusal}
+use Rattle.checks.specs.declared.Refusal.TheVariants.{Outside}
 
 -- an origin of 0
 pub record AtZero (u : Unit) : Type 0 where
@@ -44,6 +43,6 @@ shifted x d D = x +ℤ d *ℤ pos D
 abbrev pub BeforeOrigin : Type 0
 BeforeOrigin =
     (u : Unit) (x y z : ℤ) (D : ℕ)
-    → unit_checks u ≡ Passed → divisor_checks (net_of u) D ≡ Passed
+    → unit_checks u ≡ no_refusal → divisor_checks (net_of u) D ≡ no_refusal
     → (x <ℤ (u.o1 *ℤ pos D)) ⊎ ((y <ℤ (u.o2 *ℤ pos D)) ⊎ (z <ℤ (u.o3 *ℤ pos D)))
-    → place_answer u x y z D ≡ Refused (refusal 12 0)
+    → place_answer u x y z D ≡ Err Outside

@@ -1,5 +1,5 @@
 -- The axis order and the weights of a point, said without the way in which they are found: Section 14.5.
-use Rattle.std.specs.Prelude.{◌⊎◌, ◌≡◌, ◌+◌, ◌<◌, ℕ, ℤ}
+use Rattle.std.specs.Prelude.{Ok, ℕ, ℤ, ◌+◌, ◌<◌, ◌≡◌, ◌⊎◌}
 use Rattle.spline.specs.Place.{Axis, on_axes}
 use Rattle.unit.specs.declared.Unit.{Unit}
 use Rattle.coordinates.specs.Coordinates.{distance, located}
@@ -7,7 +7,6 @@ use Rattle.axis_order.specs.AxisOrder.{AxisRanks, axis_number, rank_axes}
 use Rattle.axis_order.specs.Weights.{weight_sum}
 use Rattle.axis_order.specs.declared.Placing.{Placing}
 use Rattle.placing.specs.Place.{place_answer}
-use Rattle.placing.specs.declared.PlacingAnswer.TheVariants.{Placed}
 
 -- ---- the axis order
 
@@ -48,5 +47,5 @@ pub record Weighed (u : Axis → ℕ) (o : AxisRanks) (D : ℕ) (q : Placing) : 
 -- That holds of each placing that the placing call gives.
 abbrev pub WeightsAddUp : Type 0
 WeightsAddUp =
-    (u : Unit) (x y z : ℤ) (D : ℕ) (q : Placing) → place_answer u x y z D ≡ Placed q
+    (u : Unit) (x y z : ℤ) (D : ℕ) (q : Placing) → place_answer u x y z D ≡ Ok q
     → (let rest = remainders u x y z D in Weighed rest (rank_axes rest) D q)

@@ -5,12 +5,12 @@ use Prim.Native.Nat.{ℕ}
 use lib.IntN.{ℤ}
 use lib.ListN.{length}
 use Rattle.sums.specs.Fill.{number_at}
-use Rattle.checks.specs.declared.Checked.{Checked}
 use Rattle.unit.specs.Unit.{net_of, sizes}
 use Rattle.unit.specs.declared.Unit.{Unit}
 use Rattle.limits.specs.Limits.{lent_checks, room_checks}
 use Rattle.axis_order.specs.declared.Placing.{Placing}
 use Rattle.blended.specs.Blend.{correction_at, window_checks}
+use Rattle.checks.specs.Checks.{Checked}
 
 module _ (u : Unit) (net : List ℕ) (corrections : List ℤ) where
   -- 4 and 9

@@ -14,9 +14,6 @@ use Rattle.spline.specs.Box.{places}
 use Rattle.spline.specs.Multiplicities.{Multiplicities, degree, extent}
 use Rattle.spline.specs.Place.{Axis, a1, a2, a3}
 use Rattle.checks.proofs.Checks.{at-passed, then-passed}
-use Rattle.checks.specs.Checks.{and_then, passed_or}
-use Rattle.checks.specs.declared.Checked.{Checked}
-use Rattle.checks.specs.declared.Checked.TheVariants.{Passed, Stopped}
 use Rattle.checks.specs.declared.Refusal.{Refusal}
 use Rattle.unit.specs.Unit.{net_of, sizes}
 use Rattle.unit.specs.declared.Unit.{Unit}
@@ -34,7 +31,6 @@ use Rattle.blending.proofs.Windows.{entry_in, inside_of}
 use Rattle.answers.specs.Bernstein.{shift_numerator, term_weight, uncertainty_numerator}
 use Rattle.answers.specs.Live.{live_answer, live_checks, live_value, live_valuing_answer, live_valuing_checks}
 use Rattle.answers.specs.Point.{point_answer, point_checks, valuing_answer}
-use Rattle.answers.specs.declared.PointAnswer.{PointAnswer}
 use Rattle.claims_points.proofs.Chains.{lent_slices, room, window}
 use Rattle.claims_points.specs.Gaps.{DifferAtGaps, GapsUncounted}
 use Rattle.blended.proofs.Answers.{fit, fit_at}
@@ -42,14 +38,16 @@ use Rattle.blended.specs.Blend.{blend_checks, correction_at, uncertainty_at, win
 use Rattle.blended.specs.Blending.{blended_uncertainty, local_place, share}
 use Rattle.blended.specs.Gaps.{first_gap}
 use Rattle.blended.specs.Inner.Fit.{Fit}
-use Rattle.answers.specs.declared.LiveAnswer.TheVariants as lives
-use Rattle.answers.specs.declared.PointAnswer.TheVariants as points
+use Rattle.checks.specs.Checks.{Checked, and_then, no_refusal, passed_or}
+use Rattle.std.specs.Prelude.{Err, Ok, Result}
+use Rattle.answers.specs.declared.Fraction.{Fraction}
+use Rattle.checks.specs.declared.Refusal.TheVariants.{WindowGap}
 
 -- what is made only after the checks have passed
-passed-alike : {A : Type 0} (k : Checked) {a b : A} (kept : Refusal → A) → (k ≡ Passed → a ≡ b)
+passed-alike : {A : Type 0} (k : Checked) {a b : A} (kept : Refusal → A) → (k ≡ no_refusal → a ≡ b)
     → passed_or k a kept ≡ passed_or k b kept
-passed-alike Passed kept h = h refl
-passed-alike (Stopped r) kept h = refl
+passed-alike (Ok _) kept h = h refl
+passed-alike (Err r) kept h = refl
 
 -- equal entries of the window give equal blended numbers, and so an equal U
 module _ (v : Multiplicities) (net : ℕ → ℕ) (entry₁ entry₂ : ℕ → ℕ → ℕ → ℕ) (q : Placing)
@@ -78,11 +76,11 @@ module _ (u : Unit) (net : List ℕ) (corrections : List ℤ) (us₁ us₂ : Lis
 
   -- where the window passes, none of its entries is a gap, and so U is the same
   uncertainty-alike : Fit u (length net) (length corrections) (length us₁) q
-      → window u net corrections q ≡ Passed → U us₁ ≡ U us₂
+      → window u net corrections q ≡ no_refusal → U us₁ ≡ U us₂
   unfolding window_checks
   uncertainty-alike f passed =
       let gap = first_gap (net_of u) (sizes u) (correction_at (sizes u) corrections) (placing_cell q) in
-      let none = (at-passed 13 gap _ passed).0 in
+      let none = (at-passed WindowGap gap _ passed).0 in
       numerator-alike (net_of u) (number_at net) (uncertainty_at (sizes u) us₁) (uncertainty_at (sizes u) us₂) q
       (λ i1 i2 i3 l1 l2 l3.
       same.measured _
@@ -93,8 +91,8 @@ module _ (u : Unit) (net : List ℕ) (corrections : List ℤ) (us₁ us₂ : Lis
 
   -- checks look at the length of the uncertainties alone, and what is made after them at U
   answer-alike : {A : Type 0} (checks : ℕ → Checked) (make : ℕ → A) (kept : Refusal → A)
-      → (checks (length us₁) ≡ Passed
-      → Fit u (length net) (length corrections) (length us₁) q × (window u net corrections q ≡ Passed))
+      → (checks (length us₁) ≡ no_refusal
+      → Fit u (length net) (length corrections) (length us₁) q × (window u net corrections q ≡ no_refusal))
       → passed_or (checks (length us₁)) (make (U us₁)) kept
       ≡ passed_or (checks (length us₂)) (make (U us₂)) kept
   answer-alike checks make kept passed =
@@ -115,9 +113,9 @@ module _ (u : Unit) (net : List ℕ) (corrections : List ℤ) (us₁ us₂ : Lis
   abbrev N : Placing → ℤ
   N = shift_numerator (net_of u) (number_at net) (correction_at (sizes u) corrections)
 
-  abbrev value : Placing → ℕ → ℕ → PointAnswer
+  abbrev value : Placing → ℕ → ℕ → Result Fraction Refusal
   value q D n =
-      points.Value (record { numerator = N q; uncertainty = n; denominator = scale (degree (net_of u)) D })
+      Ok (record { numerator = N q; uncertainty = n; denominator = scale (degree (net_of u)) D })
 
   module _ (x y z : ℤ) (D : ℕ) where
     abbrev q : Placing
@@ -127,7 +125,7 @@ module _ (u : Unit) (net : List ℕ) (corrections : List ℤ) (us₁ us₂ : Lis
     last = window u net corrections q
 
     -- a point past its checks can be blended
-    point-fits : lent_over (length us₁) ≡ Passed → position_checks u x y z D ≡ Passed
+    point-fits : lent_over (length us₁) ≡ no_refusal → position_checks u x y z D ≡ no_refusal
         → Fit u (length net) (length corrections) (length us₁) q
     point-fits l p =
         fit u (length net) (length corrections) (length us₁) x y z D
@@ -138,7 +136,7 @@ module _ (u : Unit) (net : List ℕ) (corrections : List ℤ) (us₁ us₂ : Lis
     point-alike =
         let position = position_checks u x y z D in
         answer-alike u net corrections us₁ us₂ same q (λ n. and_then (lent_over n) (and_then position last))
-        (value q D) points.Refused
+        (value q D) Err
         (λ h.
         let l = then-passed (lent_over (length us₁)) _ h in
         let p = then-passed position last l.1 in
@@ -152,7 +150,7 @@ module _ (u : Unit) (net : List ℕ) (corrections : List ℤ) (us₁ us₂ : Lis
         let inside = inside_check u x y z D in
         answer-alike u net corrections us₁ us₂ same q
         (λ n. and_then (lent_over n) (and_then divisor (and_then inside last)))
-        (live_value flag (N q)) lives.Refused
+        (λ (made : ℕ). Ok (live_value flag (N q) made)) Err
         (λ h.
         let l = then-passed (lent_over (length us₁)) _ h in
         let d = then-passed divisor _ l.1 in
@@ -165,7 +163,7 @@ module _ (u : Unit) (net : List ℕ) (corrections : List ℤ) (us₁ us₂ : Lis
     last-at = window u net corrections q
 
     -- so can a placing past its own
-    placing-fits : placing_checks u q ≡ Passed → room_over (length us₁) ≡ Passed
+    placing-fits : placing_checks u q ≡ no_refusal → room_over (length us₁) ≡ no_refusal
         → Fit u (length net) (length corrections) (length us₁) q
     unfolding placed_checks
     placing-fits p r =
@@ -178,7 +176,7 @@ module _ (u : Unit) (net : List ℕ) (corrections : List ℤ) (us₁ us₂ : Lis
     value-alike =
         answer-alike u net corrections us₁ us₂ same q
         (λ n. and_then (and_then (placing_checks u q) (room_over n)) last-at)
-        (value q (weight_sum q)) points.Refused
+        (value q (weight_sum q)) Err
         (λ h.
         let w = then-passed (and_then (placing_checks u q) (room_over (length us₁))) last-at h in
         let p = then-passed (placing_checks u q) (room_over (length us₁)) w.0 in
@@ -190,7 +188,7 @@ module _ (u : Unit) (net : List ℕ) (corrections : List ℤ) (us₁ us₂ : Lis
     live-value-alike flag =
         let start = and_then (placing_checks u q) (live_scale_check (net_of u) (weight_sum q)) in
         answer-alike u net corrections us₁ us₂ same q (λ n. and_then start (and_then (room_over n) last-at))
-        (live_value flag (N q)) lives.Refused
+        (λ (made : ℕ). Ok (live_value flag (N q) made)) Err
         (λ h.
         let s = then-passed start _ h in
         let p = then-passed (placing_checks u q) _ s.0 in

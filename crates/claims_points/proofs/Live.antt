@@ -9,10 +9,7 @@ use lib.Dec.{ltb}
 use lib.IntN.{ℤ}
 use lib.ListN.{length}
 use Rattle.spline.specs.Multiplicities.{Multiplicities, degree}
-use Rattle.checks.proofs.Checks.{stopped-passed, then-passed}
-use Rattle.checks.specs.Checks.{and_then, passed_or, refusal, refuse_if}
-use Rattle.checks.specs.declared.Checked.{Checked}
-use Rattle.checks.specs.declared.Checked.TheVariants.{Passed, Stopped}
+use Rattle.checks.proofs.Checks.{made-by, refused-by, stopped-passed, then-passed}
 use Rattle.checks.specs.declared.Refusal.{Refusal}
 use Rattle.unit.specs.Unit.{net_of}
 use Rattle.unit.specs.declared.Unit.{Unit}
@@ -22,51 +19,33 @@ use Rattle.placing.specs.Placing.{placing}
 use Rattle.answers.specs.Live.{live_answer, live_checks, live_value}
 use Rattle.answers.specs.Point.{fraction_at, point_answer, point_checks}
 use Rattle.answers.specs.declared.Fraction.{Fraction}
-use Rattle.answers.specs.declared.LiveAnswer.TheVariants.{Refused}
 use Rattle.claims_points.proofs.Chains.{lent_slices, window}
 use Rattle.claims_points.specs.Live.{LiveAnswered, LiveFlag, LiveRefused, MeetsFifteen}
-use Rattle.answers.specs.declared.PointAnswer.TheVariants as points
+use Rattle.checks.specs.Checks.{Checked, and_then, no_refusal, passed_or, refuse_if}
+use Rattle.std.specs.Prelude.{Err, Ok}
+use Rattle.checks.specs.declared.Refusal.TheVariants.{LargeLiveScale}
 
 -- ---- answers made of checks
 
--- a refused point was stopped by a check
-pub point-stopped : (k : Checked) (f : Fraction) {r : Refusal}
-    → passed_or k (points.Value f) points.Refused ≡ points.Refused r → k ≡ Stopped r
-point-stopped Passed f h = let z : ◌≡◌ {A = ℕ} 0 1 = cc in absurd (omega arith)
-point-stopped (Stopped s) f h = cc
-
--- one with a value passed them all
-pub point-valued : (k : Checked) (f : Fraction) {g : Fraction}
-    → passed_or k (points.Value f) points.Refused ≡ points.Value g → (k ≡ Passed) × (g ≡ f)
-point-valued Passed f h = (refl, cc)
-point-valued (Stopped s) f h = let z : ◌≡◌ {A = ℕ} 0 1 = cc in absurd (omega arith)
-
--- a refused live call was stopped too, whatever its flag
-pub live-stopped : (k : Checked) (flag : Bool) (N : ℤ) (U : ℕ) {r : Refusal}
-    → passed_or k (live_value flag N U) Refused ≡ Refused r → k ≡ Stopped r
-live-stopped Passed true N U h = let z : ◌≡◌ {A = ℕ} 0 1 = cc in absurd (omega arith)
-live-stopped Passed false N U h = let z : ◌≡◌ {A = ℕ} 0 1 = cc in absurd (omega arith)
-live-stopped (Stopped s) flag N U h = cc
-
 -- what 15 stops has m!×D^m above 2^37
-pub above-limit : (v : Multiplicities) (D : ℕ) {r : Refusal} → live_scale_check v D ≡ Stopped r
+pub above-limit : (v : Multiplicities) (D : ℕ) {r : Refusal} → live_scale_check v D ≡ Err r
     → live_limit < scale (degree v) D
 unfolding live_scale_check
 above-limit v D {r} h = ltb-true _ _ (go (ltb live_limit (scale (degree v) D)) h)
   where
-    go : (b : Bool) → refuse_if 15 b Passed ≡ Stopped r → b ≡ true
+    go : (b : Bool) → refuse_if LargeLiveScale b no_refusal ≡ Err r → b ≡ true
     go true k = refl
     go false k = stopped-passed r (sym k)
 
 -- 15 lets m!×D^m up to 2^37 pass
 pub fifteen-passes : (v : Multiplicities) (D : ℕ) → scale (degree v) D ≤ live_limit
-    → live_scale_check v D ≡ Passed
+    → live_scale_check v D ≡ no_refusal
 unfolding live_scale_check
 fifteen-passes v D h = rw (le-ltb live_limit (scale (degree v) D) h) refl
 
 -- and stops what is above
 pub fifteen-stops : (v : Multiplicities) (D : ℕ) → live_limit < scale (degree v) D
-    → live_scale_check v D ≡ Stopped (refusal 15 0)
+    → live_scale_check v D ≡ Err LargeLiveScale
 unfolding live_scale_check
 fifteen-stops v D h = rw (lt-ltb live_limit (scale (degree v) D) h) refl
 
@@ -102,40 +81,40 @@ module _ (u : Unit) (net : List ℕ) (corrections : List ℤ) (uncertainties : L
 
   -- the exact call goes by its chain
   point-is : point_answer u net corrections uncertainties x y z D
-      ≡ passed_or exact (points.Value fraction) points.Refused
+      ≡ passed_or exact (Ok fraction) Err
   unfolding point_answer point_checks position_checks
   point-is = refl
 
   -- and the live call by its own
   pub live-is : (flag : Bool)
       → live_answer u net corrections uncertainties x y z D flag
-      ≡ passed_or live (live_value flag fraction.numerator fraction.uncertainty) Refused
+      ≡ passed_or live (Ok (live_value flag fraction.numerator fraction.uncertainty)) Err
   unfolding live_answer live_checks live_divisor_checks
   live-is flag = refl
 
   -- 15 where it is looked at and applies
-  stopped-here : Fifteen → live ≡ Stopped (refusal 15 0)
+  stopped-here : Fifteen → live ≡ Err LargeLiveScale
   stopped-here m = rw (m.lent, m.divisor, fifteen-stops (net_of u) D m.above) refl
 
   -- else, what stops the exact call stops the live one
-  stopped-alike : {r : Refusal} → (Fifteen → ⊥) → exact ≡ Stopped r → live ≡ Stopped r
+  stopped-alike : {r : Refusal} → (Fifteen → ⊥) → exact ≡ Err r → live ≡ Err r
   stopped-alike {r} unmet h = go lent divisor fifteen refl refl refl
     where
-      go : (a b c : Checked) → lent ≡ a → divisor ≡ b → fifteen ≡ c → live ≡ Stopped r
-      go (Stopped s) b c ea eb ec = rw ea (rw ea at h)
-      go Passed (Stopped s) c ea eb ec = rw (ea, eb) (rw (ea, eb) at h)
-      go Passed Passed Passed ea eb ec = rw (ea, eb, ec) (rw (ea, eb) at h)
-      go Passed Passed (Stopped s) ea eb ec =
+      go : (a b c : Checked) → lent ≡ a → divisor ≡ b → fifteen ≡ c → live ≡ Err r
+      go (Err s) b c ea eb ec = rw ea (rw ea at h)
+      go (Ok _) (Err s) c ea eb ec = rw (ea, eb) (rw (ea, eb) at h)
+      go (Ok _) (Ok _) (Ok _) ea eb ec = rw (ea, eb, ec) (rw (ea, eb) at h)
+      go (Ok _) (Ok _) (Err s) ea eb ec =
           absurd (unmet (record { lent = ea; divisor = eb; above = above-limit (net_of u) D ec }))
 
   pub record Passes : Type 0 where
-    pub lent-passed : lent ≡ Passed
-    pub divisor-passed : divisor ≡ Passed
-    pub inside-passed : inside ≡ Passed
-    pub window-passed : last ≡ Passed
+    pub lent-passed : lent ≡ no_refusal
+    pub divisor-passed : divisor ≡ no_refusal
+    pub inside-passed : inside ≡ no_refusal
+    pub window-passed : last ≡ no_refusal
 
   -- an exact call that goes through has passed all checks but 15
-  exact-passes : exact ≡ Passed → Passes
+  exact-passes : exact ≡ no_refusal → Passes
   exact-passes h =
       let l = then-passed lent _ h in
       let p = then-passed (and_then divisor inside) last l.1 in
@@ -143,7 +122,7 @@ module _ (u : Unit) (net : List ℕ) (corrections : List ℤ) (uncertainties : L
       record { lent-passed = l.0; divisor-passed = d.0; inside-passed = d.1; window-passed = p.1 }
 
   -- so has a live one
-  pub live-passes : live ≡ Passed → Passes
+  pub live-passes : live ≡ no_refusal → Passes
   live-passes h =
       let l = then-passed lent _ h in
       let r = then-passed (and_then divisor fifteen) _ l.1 in
@@ -152,7 +131,7 @@ module _ (u : Unit) (net : List ℕ) (corrections : List ℤ) (uncertainties : L
       record { lent-passed = l.0; divisor-passed = d.0; inside-passed = i.0; window-passed = i.1 }
 
   -- 15 lets all others pass
-  within-passes : Passes → scale (degree (net_of u)) D ≤ live_limit → live ≡ Passed
+  within-passes : Passes → scale (degree (net_of u)) D ≤ live_limit → live ≡ no_refusal
   within-passes p h =
       rw (
         p.lent-passed,
@@ -162,7 +141,7 @@ module _ (u : Unit) (net : List ℕ) (corrections : List ℤ) (uncertainties : L
         p.window-passed,
       ) refl
 
-  above-stops : Passes → live_limit < scale (degree (net_of u)) D → live ≡ Stopped (refusal 15 0)
+  above-stops : Passes → live_limit < scale (degree (net_of u)) D → live ≡ Err LargeLiveScale
   above-stops p h =
       stopped-here (record { lent = p.lent-passed; divisor = p.divisor-passed; above = h })
 
@@ -171,7 +150,7 @@ module _ (u : Unit) (net : List ℕ) (corrections : List ℤ) (uncertainties : L
 pub live-refused : LiveRefused
 live-refused u net corrections uncertainties x y z D flag r h =
     let e = live-is u net corrections uncertainties x y z D flag in
-    let stop = point-stopped _ _ (sym (point-is u net corrections uncertainties x y z D) ∙ h) in (
+    let stop = refused-by _ _ (sym (point-is u net corrections uncertainties x y z D) ∙ h) in (
       λ m. e ∙ rw (stopped-here u net corrections uncertainties x y z D m) refl,
       λ unmet. e ∙ rw (stopped-alike u net corrections uncertainties x y z D unmet stop) refl,
     )
@@ -179,7 +158,7 @@ live-refused u net corrections uncertainties x y z D flag r h =
 pub live-answered : LiveAnswered
 live-answered u net corrections uncertainties x y z D flag f h =
     let e = live-is u net corrections uncertainties x y z D flag in
-    let k = point-valued _ _ (sym (point-is u net corrections uncertainties x y z D) ∙ h) in
+    let k = made-by _ _ (sym (point-is u net corrections uncertainties x y z D) ∙ h) in
     let p = exact-passes u net corrections uncertainties x y z D k.0 in
     rw k.1 (
       λ l. e ∙ rw (within-passes u net corrections uncertainties x y z D p l) refl,
@@ -189,11 +168,11 @@ live-answered u net corrections uncertainties x y z D flag f h =
 pub live-flag : LiveFlag
 live-flag u net corrections uncertainties x y z D r = (alike true false, alike false true)
   where
-    alike : (a b : Bool) → live_answer u net corrections uncertainties x y z D a ≡ Refused r
-        → live_answer u net corrections uncertainties x y z D b ≡ Refused r
+    alike : (a b : Bool) → live_answer u net corrections uncertainties x y z D a ≡ Err r
+        → live_answer u net corrections uncertainties x y z D b ≡ Err r
     alike a b h =
         let e = live-is u net corrections uncertainties x y z D in
         let f = fraction u net corrections uncertainties x y z D in
-        let stop = live-stopped (live u net corrections uncertainties x y z D) a f.numerator
-        f.uncertainty (sym (e a) ∙ h) in
+        let stop = refused-by (live u net corrections uncertainties x y z D)
+        (live_value a f.numerator f.uncertainty) (sym (e a) ∙ h) in
         e b ∙ rw stop refl

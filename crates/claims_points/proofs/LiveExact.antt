@@ -14,9 +14,6 @@ use Rattle.sums.specs.Fill.{number_at}
 use Rattle.spline.specs.Box.{index}
 use Rattle.spline.specs.Multiplicities.{degree}
 use Rattle.checks.proofs.Checks.{at-passed, if-passed, then-passed}
-use Rattle.checks.specs.Checks.{and_then, refuse_if}
-use Rattle.checks.specs.declared.Checked.{Checked}
-use Rattle.checks.specs.declared.Checked.TheVariants.{Passed, Stopped}
 use Rattle.unit.specs.Unit.{net_of, sizes}
 use Rattle.unit.specs.declared.Unit.{Unit}
 use Rattle.limits.proofs.Accepted.{unit-passed}
@@ -42,8 +39,9 @@ use Rattle.claims_points.specs.Live.{SixteenBits, negative}
 use Rattle.blended.specs.Blend.{blend_checks, correction_at, uncertainty_at, window_checks}
 use Rattle.blended.specs.Blending.{adds_up}
 use Rattle.blended.specs.Gaps.{first_gap}
-use Rattle.placing.specs.declared.PlacingAnswer.TheVariants as placings
-use Rattle.answers.specs.declared.PointAnswer.TheVariants as points
+use Rattle.checks.specs.Checks.{Checked, and_then, no_refusal, refuse_if}
+use Rattle.std.specs.Prelude.{Err, Ok}
+use Rattle.checks.specs.declared.Refusal.TheVariants.{UnevenShares, WindowGap}
 
 -- ---- floats
 
@@ -67,10 +65,10 @@ module _ (u : Unit) (net : List ℕ) (corrections : List ℤ) (uncertainties : L
   f = fraction_at u net corrections uncertainties q (weight_sum q)
 
   -- what the live valuing call lets pass has passed the window, and 15
-  live-passed : live_valuing_checks u net corrections uncertainties q ≡ Passed
-      → (blend_checks u net corrections uncertainties q ≡ Passed)
-      × (window u net corrections q ≡ Passed)
-      × (live_scale_check (net_of u) (weight_sum q) ≡ Passed)
+  live-passed : live_valuing_checks u net corrections uncertainties q ≡ no_refusal
+      → (blend_checks u net corrections uncertainties q ≡ no_refusal)
+      × (window u net corrections q ≡ no_refusal)
+      × (live_scale_check (net_of u) (weight_sum q) ≡ no_refusal)
   unfolding live_valuing_checks live_placing_checks blend_checks placed_checks
   live-passed h =
       let slices = room u net corrections (length uncertainties) in
@@ -79,15 +77,15 @@ module _ (u : Unit) (net : List ℕ) (corrections : List ℤ) (uncertainties : L
       let c = then-passed slices (window u net corrections q) a.1 in
       (rw (b.0, c.0) c.1, c.1, b.1)
 
-  module _ (passed : window u net corrections q ≡ Passed)
+  module _ (passed : window u net corrections q ≡ no_refusal)
       (within : scale (degree (net_of u)) (weight_sum q) ≤ live_limit)
       (lent : SixteenBits corrections uncertainties) where
     even : adds_up (net_of u) (number_at net) q ≡ true
     unfolding window_checks
     even =
-        let sums = refuse_if 23 (not (adds_up (net_of u) (number_at net) q)) Passed in
+        let sums = refuse_if UnevenShares (not (adds_up (net_of u) (number_at net) q)) no_refusal in
         let gap = first_gap (net_of u) (sizes u) (correction_at (sizes u) corrections) (placing_cell q) in
-        not-false _ (if-passed 23 _ _ (at-passed 13 gap sums passed).1).0
+        not-false _ (if-passed UnevenShares _ _ (at-passed WindowGap gap sums passed).1).0
 
     numerator-small : nat_abs f.numerator ≤ exact
     numerator-small =
@@ -103,28 +101,28 @@ module _ (u : Unit) (net : List ℕ) (corrections : List ℤ) (uncertainties : L
         omega (arith, size, within)
 
     -- so their floats have exactly their values
-    values-are : (flag : Bool) → HasFloats IsExactly flag f (live_value flag f.numerator f.uncertainty)
+    values-are : (flag : Bool) → HasFloats IsExactly flag f (Ok (live_value flag f.numerator f.uncertainty))
     values-are true = (value_of _ numerator-small, value_of (pos _) uncertainty-small)
     values-are false = value_of _ numerator-small
 
 -- their bits are those of N and U as floats whatever these are
 bits_are : (flag : Bool) (f : Fraction)
-    → HasFloats IsFloatOf flag f (live_value flag f.numerator f.uncertainty)
+    → HasFloats IsFloatOf flag f (Ok (live_value flag f.numerator f.uncertainty))
 bits_are true f = (float_of f.numerator, float_of (pos f.uncertainty))
 bits_are false f = float_of f.numerator
 
 -- ---- the calls
 
 -- a point that meets none of 21, 22, 10, 11, 12 is placed
-placed-here : (u : Unit) (x y z : ℤ) (D : ℕ) → unit_checks u ≡ Passed → divisor_checks (net_of u) D ≡ Passed
-    → inside_check u x y z D ≡ Passed → place_answer u x y z D ≡ placings.Placed (placing u x y z D)
+placed-here : (u : Unit) (x y z : ℤ) (D : ℕ) → unit_checks u ≡ no_refusal → divisor_checks (net_of u) D ≡ no_refusal
+    → inside_check u x y z D ≡ no_refusal → place_answer u x y z D ≡ Ok (placing u x y z D)
 unfolding place_answer position_checks
 placed-here u x y z D unit divisor inside = rw (unit, divisor, inside) refl
 
 -- past the unit, what is lent is looked at for room
-room-left : (u : Unit) (net : List ℕ) (corrections : List ℤ) (uncertainties : List ℕ) → unit_checks u ≡ Passed
-    → lent_slices u net corrections (length uncertainties) ≡ Passed
-    → room u net corrections (length uncertainties) ≡ Passed
+room-left : (u : Unit) (net : List ℕ) (corrections : List ℤ) (uncertainties : List ℕ) → unit_checks u ≡ no_refusal
+    → lent_slices u net corrections (length uncertainties) ≡ no_refusal
+    → room u net corrections (length uncertainties) ≡ no_refusal
 unfolding lent_checks
 room-left u net corrections uncertainties unit h = rw unit at h
 
@@ -137,18 +135,18 @@ module _ (u : Unit) (net : List ℕ) (corrections : List ℤ) (uncertainties : L
 
   -- a placing whose answer is no refusal has passed all checks
   agrees_at : (q : Placing)
-      → (window u net corrections q ≡ Passed → live_scale_check (net_of u) (weight_sum q) ≡ Passed
+      → (window u net corrections q ≡ no_refusal → live_scale_check (net_of u) (weight_sum q) ≡ no_refusal
       → (let N = fraction_at u net corrections uncertainties q (weight_sum q) in
-      HasFloats P flag N (live_value flag N.numerator N.uncertainty)))
+      HasFloats P flag N (Ok (live_value flag N.numerator N.uncertainty))))
       → AgreesAt q
   unfolding valuing_answer live_valuing_answer
   agrees_at q held answered = go (live_valuing_checks u net corrections uncertainties q) refl
     where
       go : (k : Checked) → live_valuing_checks u net corrections uncertainties q ≡ k
-          → (f : Fraction) × (valuing_answer u net corrections uncertainties q ≡ points.Value f)
+          → (f : Fraction) × (valuing_answer u net corrections uncertainties q ≡ Ok f)
           × HasFloats P flag f (live_valuing_answer u net corrections uncertainties q flag)
-      go (Stopped r) e = absurd (answered r (rw e refl))
-      go Passed e =
+      go (Err r) e = absurd (answered r (rw e refl))
+      go (Ok _) e =
           let p = live-passed u net corrections uncertainties q e in
           let f = fraction_at u net corrections uncertainties q (weight_sum q) in
           (f, rw p.0 refl, rw e (held p.1 p.2))
@@ -161,11 +159,11 @@ module _ (u : Unit) (net : List ℕ) (corrections : List ℤ) (uncertainties : L
     where
       go : (k : Checked) → live u net corrections uncertainties x y z D ≡ k
           → (f : Fraction)
-          × (point_answer u net corrections uncertainties x y z D ≡ points.Value f)
+          × (point_answer u net corrections uncertainties x y z D ≡ Ok f)
           × HasFloats P flag f (live_answer u net corrections uncertainties x y z D flag)
-      go (Stopped r) e =
+      go (Err r) e =
           absurd (answered r (live-is u net corrections uncertainties x y z D flag ∙ rw e refl))
-      go Passed e =
+      go (Ok _) e =
           let p = live-passes u net corrections uncertainties x y z D e in
           let unit = unit-passed u _ _ _ p.lent-passed in
           let here = placed-here u x y z D unit p.divisor-passed p.inside-passed in

@@ -5,8 +5,6 @@ use mathlib.Core.Path.{◌≡◌, ap₂, refl}
 use Prim.Native.Nat.{ℕ}
 use lib.IntN.{pos, ℤ}
 use lib.ListN.{length}
-use Rattle.checks.specs.Checks.{and_then, passed_or}
-use Rattle.checks.specs.declared.Checked.{Checked}
 use Rattle.unit.specs.Unit.{holds_block, holds_net, net_of}
 use Rattle.unit.specs.declared.Unit.{Unit}
 use Rattle.limits.specs.Limits.{lent_checks, unit_checks}
@@ -14,44 +12,43 @@ use Rattle.divisor_checks.specs.Divisor.{divisor_checks, live_divisor_checks}
 use Rattle.axis_order.specs.declared.Placing.{Placing}
 use Rattle.placing.specs.Place.{inside_check, place_answer, position_checks}
 use Rattle.placing.specs.Placing.{placing}
-use Rattle.placing.specs.declared.PlacingAnswer.{PlacingAnswer}
-use Rattle.placing.specs.declared.PlacingAnswer.TheVariants.{Placed, Refused}
 use Rattle.placing_fields.specs.Fields.{faces_in_last}
 use Rattle.possible.specs.Possible.{live_placing_checks, placed_checks, placing_checks, possible}
 use Rattle.answers.specs.Live.{live_answer, live_checks, live_value, live_valuing_answer, live_valuing_checks}
 use Rattle.answers.specs.Point.{fraction_at, point_answer, point_checks, valuing_answer}
-use Rattle.answers.specs.declared.LiveAnswer.{LiveAnswer}
-use Rattle.answers.specs.declared.PointAnswer.{PointAnswer}
 use Rattle.claims_placings.proofs.Origins.{inside-moved, placing-moved, zero-inside, zero-placing}
 use Rattle.claims_placings.specs.Origins.{moved_by, shifted}
 use Rattle.claims_points.proofs.Chains.{lent_slices, window}
 use Rattle.claims_points.specs.Origins.{Moved, OriginZero, PlacingStays}
 use Rattle.blended.specs.Blend.{blend_checks}
-use Rattle.answers.specs.declared.LiveAnswer.TheVariants as lives
-use Rattle.answers.specs.declared.PointAnswer.TheVariants as points
+use Rattle.checks.specs.Checks.{Checked, and_then, passed_or}
+use Rattle.std.specs.Prelude.{Err, Ok, Result}
+use Rattle.checks.specs.declared.Refusal.{Refusal}
+use Rattle.answers.specs.declared.Fraction.{Fraction}
+use Rattle.answers.specs.declared.LiveValue.{LiveValue}
 
 -- ---- answers by what is read of the coordinates
 
 -- the answers by these two
 module _ (u : Unit) (D : ℕ) where
-  abbrev place_by : Checked → Placing → PlacingAnswer
-  place_by k q = passed_or (and_then (unit_checks u) (and_then (divisor_checks (net_of u) D) k)) (Placed q) Refused
+  abbrev place_by : Checked → Placing → Result Placing Refusal
+  place_by k q = passed_or (and_then (unit_checks u) (and_then (divisor_checks (net_of u) D) k)) (Ok q) Err
 
   module _ (net : List ℕ) (corrections : List ℤ) (uncertainties : List ℕ) where
-    abbrev point_by : Checked → Placing → PointAnswer
+    abbrev point_by : Checked → Placing → Result Fraction Refusal
     point_by k q =
         passed_or
         (and_then (lent_slices u net corrections (length uncertainties))
         (and_then (and_then (divisor_checks (net_of u) D) k) (window u net corrections q)))
-        (points.Value (fraction_at u net corrections uncertainties q D)) points.Refused
+        (Ok (fraction_at u net corrections uncertainties q D)) Err
 
-    abbrev live_by : Bool → Checked → Placing → LiveAnswer
+    abbrev live_by : Bool → Checked → Placing → Result LiveValue Refusal
     live_by flag k q =
         let f = fraction_at u net corrections uncertainties q D in
         passed_or
         (and_then (lent_slices u net corrections (length uncertainties))
         (and_then (live_divisor_checks (net_of u) D) (and_then k (window u net corrections q))))
-        (live_value flag f.numerator f.uncertainty) lives.Refused
+        (Ok (live_value flag f.numerator f.uncertainty)) Err
 
 module _ (u : Unit) (x y z : ℤ) (D : ℕ) {k : Checked} {q : Placing} (inside : inside_check u x y z D ≡ k)
     (placed : placing u x y z D ≡ q) where

@@ -8,26 +8,24 @@ use lib.Dec.{ltb}
 use lib.IntN.{ℤ}
 use lib.ListN.{length}
 use Rattle.spline.specs.Box.{places, width}
-use Rattle.checks.proofs.Checks.{stopped-passed}
-use Rattle.checks.specs.Checks.{and_then, refusal, refuse_if}
-use Rattle.checks.specs.declared.Checked.{Checked}
-use Rattle.checks.specs.declared.Checked.TheVariants.{Passed, Stopped}
+use Rattle.checks.proofs.Checks.{refused-by, stopped-passed}
 use Rattle.checks.specs.declared.Refusal.{Refusal}
 use Rattle.unit.specs.Unit.{net_of, sizes}
 use Rattle.unit.specs.declared.Unit.{Unit}
 use Rattle.limits.specs.Limits.{lent_checks, unit_checks}
-use Rattle.placing.proofs.Placed.{refused-by}
 use Rattle.placing.specs.Place.{place_answer, position_checks}
 use Rattle.placing.specs.Placing.{placing}
 use Rattle.claims_points.proofs.Chains.{lent_slices, room}
 use Rattle.claims_points.specs.Placings.{TwoCalls, TwoRefused}
-use Rattle.placing.specs.declared.PlacingAnswer.TheVariants as placings
 use Rattle.answers.proofs.Point as in-turn
+use Rattle.checks.specs.Checks.{Checked, and_then, no_refusal, refuse_if}
+use Rattle.std.specs.Prelude.{Err, Ok}
+use Rattle.checks.specs.declared.Refusal.TheVariants.{BlockRoom, NetRoom}
 
 module _ (u : Unit) (x y z : ℤ) (D : ℕ) where
   -- a point that is not placed has met a check
-  not-placed : {r : Refusal} → place_answer u x y z D ≡ placings.Refused r
-      → and_then (unit_checks u) (position_checks u x y z D) ≡ Stopped r
+  not-placed : {r : Refusal} → place_answer u x y z D ≡ Err r
+      → and_then (unit_checks u) (position_checks u x y z D) ≡ Err r
   unfolding place_answer
   not-placed h = refused-by (and_then (unit_checks u) (position_checks u x y z D)) (placing u x y z D) h
 
@@ -41,26 +39,26 @@ module _ (u : Unit) (net : List ℕ) (corrections : List ℤ) (uncertainties : L
   lent = lent_slices u net corrections (length uncertainties)
 
   -- for a unit that passes, the checks of what is lent are those of the slices
-  pub lent_is : unit_checks u ≡ Passed → lent ≡ slices
+  pub lent_is : unit_checks u ≡ no_refusal → lent ≡ slices
   unfolding lent_checks
   lent_is e = rw e refl
 
   -- a slice that is refused meets 4 or 9, unless the unit is
-  short : {r s : Refusal} (rest : Checked) → and_then (unit_checks u) rest ≡ Stopped r → lent ≡ Stopped s
-      → (s ≡ r) ⊎ ((s ≡ refusal 4 0) ⊎ (s ≡ refusal 9 0))
+  short : {r s : Refusal} (rest : Checked) → and_then (unit_checks u) rest ≡ Err r → lent ≡ Err s
+      → (s ≡ r) ⊎ ((s ≡ NetRoom) ⊎ (s ≡ BlockRoom))
   unfolding lent_checks
   short {r} {s} rest h k = go (unit_checks u) h k
     where
-      by-room : (a b : Bool) → refuse_if 4 a (refuse_if 9 b Passed) ≡ Stopped s
-          → (s ≡ refusal 4 0) ⊎ (s ≡ refusal 9 0)
+      by-room : (a b : Bool) → refuse_if NetRoom a (refuse_if BlockRoom b no_refusal) ≡ Err s
+          → (s ≡ NetRoom) ⊎ (s ≡ BlockRoom)
       by-room true b e = inl cc
       by-room false true e = inr cc
       by-room false false e = stopped-passed s (sym e)
 
-      go : (c : Checked) → and_then c rest ≡ Stopped r → and_then c slices ≡ Stopped s
-          → (s ≡ r) ⊎ ((s ≡ refusal 4 0) ⊎ (s ≡ refusal 9 0))
-      go (Stopped t) e f = inl cc
-      go Passed e f =
+      go : (c : Checked) → and_then c rest ≡ Err r → and_then c slices ≡ Err s
+          → (s ≡ r) ⊎ ((s ≡ NetRoom) ⊎ (s ≡ BlockRoom))
+      go (Err t) e f = inl cc
+      go (Ok _) e f =
           let n = places (sizes u) in
           inr (by-room (ltb (length net) (places (width (net_of u))))
           (ltb (length corrections) n || ltb (length uncertainties) n) f)

@@ -1,12 +1,11 @@
 -- The live call beside the exact one: Section 14.7.
-use Rattle.std.specs.Prelude.{Bool, false, true, List, ◌↔◌, ◌≡◌, ◌<◌, ◌≤◌, ℕ, Float, nat_abs, negsuc, pos, ℤ, length}
+use Rattle.std.specs.Prelude.{Bool, Err, Float, List, Ok, Result, false, length, nat_abs, negsuc, pos, true}
+use Rattle.std.specs.Prelude.{ℕ, ℤ, ◌<◌, ◌↔◌, ◌≡◌, ◌≤◌}
 use Rattle.std.specs.Float.{binary64}
 use Rattle.std.specs.Float.Ieee.{of_int, to_bits}
 use Rattle.std.specs.Float.Ieee.Exact.{HasValue}
 use Rattle.sums.specs.Fill.{number_at, signed_at}
 use Rattle.spline.specs.Multiplicities.{degree}
-use Rattle.checks.specs.Checks.{refusal}
-use Rattle.checks.specs.declared.Checked.TheVariants.{Passed}
 use Rattle.checks.specs.declared.Refusal.{Refusal}
 use Rattle.unit.specs.Unit.{net_of}
 use Rattle.unit.specs.declared.Unit.{Unit}
@@ -16,10 +15,10 @@ use Rattle.axis_order.specs.declared.Placing.{Placing}
 use Rattle.answers.specs.Live.{live_answer, live_value, live_valuing_answer}
 use Rattle.answers.specs.Point.{point_answer, valuing_answer}
 use Rattle.answers.specs.declared.Fraction.{Fraction}
-use Rattle.answers.specs.declared.LiveAnswer.{LiveAnswer}
-use Rattle.answers.specs.declared.LiveAnswer.TheVariants.{Both, Refused, Shift}
-use Rattle.answers.specs.declared.PointAnswer.{PointAnswer}
-use Rattle.answers.specs.declared.PointAnswer.TheVariants as points
+use Rattle.checks.specs.Checks.{no_refusal}
+use Rattle.answers.specs.declared.LiveValue.{LiveValue}
+use Rattle.answers.specs.declared.LiveValue.TheVariants.{Both, Shift}
+use Rattle.checks.specs.declared.Refusal.TheVariants.{LargeLiveScale}
 
 -- ---- floats
 
@@ -38,12 +37,12 @@ IsExactly x z = HasValue x (negative z) (nat_abs z) 1
 
 -- what is said of a float and a number holds, with the uncertainty switched on, of N and U of a fraction,
 -- switched off of N alone
-abbrev pub HasFloats : (Float → ℤ → Type 0) → Bool → Fraction → LiveAnswer → Type 0
-HasFloats P true f (Both x) = P x.numerator f.numerator × P x.uncertainty (pos f.uncertainty)
-HasFloats P true f (Shift n) = ⊥
-HasFloats P false f (Shift n) = P n f.numerator
-HasFloats P false f (Both x) = ⊥
-HasFloats P flag f (Refused r) = ⊥
+abbrev pub HasFloats : (Float → ℤ → Type 0) → Bool → Fraction → Result LiveValue Refusal → Type 0
+HasFloats P true f (Ok (Both x)) = P x.numerator f.numerator × P x.uncertainty (pos f.uncertainty)
+HasFloats P true f (Ok (Shift n)) = ⊥
+HasFloats P false f (Ok (Shift n)) = P n f.numerator
+HasFloats P false f (Ok (Both x)) = ⊥
+HasFloats P flag f (Err r) = ⊥
 
 -- ---- what is lent
 
@@ -54,18 +53,18 @@ pub record SixteenBits (corrections : List ℤ) (uncertainties : List ℕ) : Typ
 
 -- 15 is looked at, since no check before it applies, and applies
 pub record MeetsFifteen (u : Unit) (net_length corrections_length uncertainties_length D : ℕ) : Type 0 where
-  pub lent : lent_checks u net_length corrections_length uncertainties_length ≡ Passed
-  pub divisor : divisor_checks (net_of u) D ≡ Passed
+  pub lent : lent_checks u net_length corrections_length uncertainties_length ≡ no_refusal
+  pub divisor : divisor_checks (net_of u) D ≡ no_refusal
   pub above : live_limit < scale (degree (net_of u)) D
 
 -- ---- the statements
 
 -- where the live answer is no refusal, the exact one is a fraction, and what P says of a float and a number
 -- holds of its N and U
-abbrev pub Agrees : (Float → ℤ → Type 0) → Bool → PointAnswer → LiveAnswer → Type 0
+abbrev pub Agrees : (Float → ℤ → Type 0) → Bool → Result Fraction Refusal → Result LiveValue Refusal → Type 0
 Agrees P flag exact live =
-    ((r : Refusal) → live ≡ Refused r → ⊥)
-    → (f : Fraction) × (exact ≡ points.Value f) × HasFloats P flag f live
+    ((r : Refusal) → live ≡ Err r → ⊥)
+    → (f : Fraction) × (exact ≡ Ok f) × HasFloats P flag f live
 
 -- Each point that the live call answers the exact call answers, and the floats have the bits of its N and U
 -- as floats; so it is with the two valuing calls and a placing.
@@ -97,25 +96,25 @@ abbrev pub LiveRefused : Type 0
 LiveRefused =
     (u : Unit) (net : List ℕ) (corrections : List ℤ) (uncertainties : List ℕ) (x y z : ℤ)
     (D : ℕ) (flag : Bool)
-    → (r : Refusal) → point_answer u net corrections uncertainties x y z D ≡ points.Refused r
+    → (r : Refusal) → point_answer u net corrections uncertainties x y z D ≡ Err r
     → (let answer = live_answer u net corrections uncertainties x y z D flag in
     let Fifteen = MeetsFifteen u (length net) (length corrections) (length uncertainties) D in
-    (Fifteen → answer ≡ Refused (refusal 15 0)) × ((Fifteen → ⊥) → answer ≡ Refused r))
+    (Fifteen → answer ≡ Err LargeLiveScale) × ((Fifteen → ⊥) → answer ≡ Err r))
 
 -- One that the exact call answers is answered here where m!×D^m is at most 2^37, and else refused by 15.
 abbrev pub LiveAnswered : Type 0
 LiveAnswered =
     (u : Unit) (net : List ℕ) (corrections : List ℤ) (uncertainties : List ℕ) (x y z : ℤ)
     (D : ℕ) (flag : Bool)
-    → (f : Fraction) → point_answer u net corrections uncertainties x y z D ≡ points.Value f
+    → (f : Fraction) → point_answer u net corrections uncertainties x y z D ≡ Ok f
     → (let answer = live_answer u net corrections uncertainties x y z D flag in
-    (f.denominator ≤ live_limit → answer ≡ live_value flag f.numerator f.uncertainty)
-    × (live_limit < f.denominator → answer ≡ Refused (refusal 15 0)))
+    (f.denominator ≤ live_limit → answer ≡ Ok (live_value flag f.numerator f.uncertainty))
+    × (live_limit < f.denominator → answer ≡ Err LargeLiveScale))
 
 -- The flag changes no check.
 abbrev pub LiveFlag : Type 0
 LiveFlag =
     (u : Unit) (net : List ℕ) (corrections : List ℤ) (uncertainties : List ℕ) (x y z : ℤ)
     (D : ℕ) (r : Refusal)
-    → (live_answer u net corrections uncertainties x y z D true ≡ Refused r)
-    ↔ (live_answer u net corrections uncertainties x y z D false ≡ Refused r)
+    → (live_answer u net corrections uncertainties x y z D true ≡ Err r)
+    ↔ (live_answer u net corrections uncertainties x y z D false ≡ Err r)

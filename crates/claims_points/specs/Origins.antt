@@ -1,7 +1,6 @@
 -- The origin of a block: Section 14.12.
-use Rattle.std.specs.Prelude.{Bool, List, ◌≡◌, ℕ, pos, ℤ, length}
+use Rattle.std.specs.Prelude.{Bool, Err, List, Ok, length, pos, ℕ, ℤ, ◌≡◌}
 use Rattle.sums.specs.Fill.{number_at}
-use Rattle.checks.specs.Checks.{and_then, passed_or}
 use Rattle.unit.specs.Unit.{net_of, sizes}
 use Rattle.unit.specs.declared.Unit.{Unit}
 use Rattle.limits.specs.Limits.{lent_checks, unit_checks}
@@ -10,14 +9,12 @@ use Rattle.cell_checks.specs.Inside.{cell_check}
 use Rattle.axis_order.specs.declared.Placing.{Placing}
 use Rattle.placing.specs.Place.{place_answer}
 use Rattle.placing.specs.Placing.{block_cells, block_placing, placing}
-use Rattle.placing.specs.declared.PlacingAnswer.TheVariants.{Placed, Refused}
 use Rattle.answers.specs.Bernstein.{shift_numerator, uncertainty_numerator}
 use Rattle.answers.specs.Live.{live_answer, live_value, live_valuing_answer}
 use Rattle.answers.specs.Point.{fraction_at, point_answer, valuing_answer}
 use Rattle.claims_placings.specs.Origins.{AtZero, moved_by, shifted}
 use Rattle.blended.specs.Blend.{correction_at, uncertainty_at, window_checks}
-use Rattle.answers.specs.declared.LiveAnswer.TheVariants as lives
-use Rattle.answers.specs.declared.PointAnswer.TheVariants as points
+use Rattle.checks.specs.Checks.{and_then, passed_or}
 
 -- ---- an origin of 0
 
@@ -34,7 +31,7 @@ OriginZero =
     let cell = cell_check v n (block_cells u x y z D) in
     (placing u (pos x) (pos y) (pos z) D ≡ q)
     × (place_answer u (pos x) (pos y) (pos z) D
-    ≡ passed_or (and_then (unit_checks u) (and_then (divisor_checks v D) cell)) (Placed q) Refused)
+    ≡ passed_or (and_then (unit_checks u) (and_then (divisor_checks v D) cell)) (Ok q) Err)
     × ((net : List ℕ) (corrections : List ℤ) (uncertainties : List ℕ)
     → (let lent = lent_checks u (length net) (length corrections) (length uncertainties) in
     let correction = correction_at n corrections in
@@ -43,15 +40,16 @@ OriginZero =
     ≡ passed_or
     (and_then lent
     (and_then (and_then (divisor_checks v D) cell) (window_checks v n (number_at net) correction q)))
-    (points.Value (fraction_at u net corrections uncertainties q D)) points.Refused)
+    (Ok (fraction_at u net corrections uncertainties q D)) Err)
     × ((flag : Bool)
     → live_answer u net corrections uncertainties (pos x) (pos y) (pos z) D flag
     ≡ passed_or
     (and_then lent
     (and_then (live_divisor_checks v D) (and_then cell (window_checks v n (number_at net) correction q))))
+    (Ok
     (live_value flag (shift_numerator v (number_at net) correction q)
-    (uncertainty_numerator v (number_at net) uncertainty q))
-    lives.Refused))))
+    (uncertainty_numerator v (number_at net) uncertainty q)))
+    Err))))
 
 -- ---- another origin
 

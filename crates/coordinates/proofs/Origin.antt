@@ -9,8 +9,9 @@ use lib.IntN.{+ℤ-neg_ℤ_cancel, ◌*ℤ◌, ◌+ℤ◌, nat_abs, negsuc, pos,
 use lib.Signed.{lt_z, non_neg}
 use Rattle.sums.proofs.Signed.{abs_diff, abs-mul}
 use Rattle.checks.proofs.Checks.{if-passed}
-use Rattle.checks.specs.declared.Checked.TheVariants.{Passed}
 use Rattle.coordinates.specs.Coordinates.{farthest_over, from_origin, sign_check}
+use Rattle.checks.specs.Checks.{no_refusal}
+use Rattle.checks.specs.declared.Refusal.TheVariants.{Outside}
 
 -- what lies t past the origin is read as t
 pub read_past : (t : ℕ) (o : ℤ) (D : ℕ) → from_origin (pos t +ℤ o *ℤ pos D) o D ≡ pos t
@@ -46,9 +47,9 @@ pub record NoneNegative (x y z : ℤ) : Type 0 where
   pub second : non_neg y ≡ true
   pub third : non_neg z ≡ true
 
-pub signs-passed : (x y z : ℤ) → sign_check x y z ≡ Passed → NoneNegative x y z
+pub signs-passed : (x y z : ℤ) → sign_check x y z ≡ no_refusal → NoneNegative x y z
 unfolding sign_check
 signs-passed x y z h =
-    let all = (and-eq-true_iff (non_neg x && non_neg y) (non_neg z)).0 (not-false _ (if-passed 12 _ _ h).0) in
+    let all = (and-eq-true_iff (non_neg x && non_neg y) (non_neg z)).0 (not-false _ (if-passed Outside _ _ h).0) in
     let two = (and-eq-true_iff (non_neg x) (non_neg y)).0 all.0 in
     record { first = two.0; second = two.1; third = all.1 }

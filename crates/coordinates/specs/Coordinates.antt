@@ -1,10 +1,9 @@
 -- A coordinate on an axis: its distance from the origin, its sign, its cell and remainder. Section 9.1.
 use Rattle.std.specs.Prelude.{◌&&◌, cond, not, ◌%◌, ◌*◌, ◌+◌, ◌-◌, ◌/◌, ℕ, eqb, ◌*ℤ◌, ◌-ℤ◌, nat_abs, pos, ℤ}
 use Rattle.std.specs.Int.Signed.{non_neg}
-use Rattle.checks.specs.Checks.{refuse_if}
-use Rattle.checks.specs.declared.Checked.{Checked}
-use Rattle.checks.specs.declared.Checked.TheVariants.{Passed}
 use Rattle.coordinates.specs.declared.Located.{Located}
+use Rattle.checks.specs.Checks.{Checked, no_refusal, refuse_if}
+use Rattle.checks.specs.declared.Refusal.TheVariants.{Outside}
 
 -- Section 9.1: a coordinate X, read from the origin o of its axis
 unfoldable pub from_origin : ℤ → ℤ → ℕ → ℤ
@@ -21,7 +20,7 @@ farthest_over D = 2147483648 + 32768 * D
 
 -- Section 5.3: 12 for a coordinate that is negative when it is read from the origin
 unfoldable pub sign_check : ℤ → ℤ → ℤ → Checked
-sign_check x y z = refuse_if 12 (not (non_neg x && non_neg y && non_neg z)) Passed
+sign_check x y z = refuse_if Outside (not (non_neg x && non_neg y && non_neg z)) no_refusal
 
 -- Section 9.1: cell and remainder of a distance over D, on an axis with n entries; the far face, at n×D,
 -- belongs to the last cell

@@ -25,14 +25,12 @@ fn next_cell(g: usize, c: Cell) -> Cell
     ensures { (n : ℕ) → c ≡ cell_of g n → result ≡ cell_of g (n + 1) }
 {
     if c.u < g {
-        return Cell {
-            base: c.base,
-            u: c.u + 1,
-        };
-    }
-    Cell {
-        base: c.base + g,
-        u: 0,
+        Cell { u: c.u + 1, ..c }
+    } else {
+        Cell {
+            base: c.base + g,
+            u: 0,
+        }
     }
 }
 
@@ -44,21 +42,15 @@ fn difference_box(net: &[u32], work: &mut [i32], old: Shape, new: Shape, d: u8)
         (places (widths new)) work.old }
 {
     let g = old.m;
-    let w2 = new.w2;
-    let w3 = new.w3;
     let v = shape::vector_of(d);
     let mut cz = cells::first_cell(g, v.z);
-    let mut z = 0;
-    while z < w3 {
+    for z in 0..new.w3 {
         let mut cy = cells::first_cell(g, v.y);
-        let mut y = 0;
-        while y < w2 {
+        for y in 0..new.w2 {
             row::difference_row(net, work, old, new, d, y, z, cy, cz);
             cy = next_cell(g, cy);
-            y += 1;
         }
         cz = next_cell(g, cz);
-        z += 1;
     }
 }
 

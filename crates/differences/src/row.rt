@@ -43,8 +43,7 @@ fn difference_across(
     let far = rows::end_back(old, b, c, t.y, t.z);
     let mut r = p - t.x;
     let mut a = 0;
-    let mut x = 0;
-    while x < w1 {
+    for x in 0..w1 {
         work[i + x] = words::minus(
             rows::read(net, old, near, a),
             rows::read_back(net, old, far, a, t.x),
@@ -55,7 +54,6 @@ fn difference_across(
             r -= 1;
             a += 1;
         }
-        x += 1;
     }
 }
 
@@ -122,13 +120,11 @@ fn difference_along(
     let g = old.m;
     let mut u = g;
     let mut a = 0;
-    let mut x = 0;
-    while x <= g {
+    for x in 0..=g {
         let r = lowered_end(old, y, z, u);
         difference_column(net, work, old, r, a, i + x, i + w1);
         u = x;
         a = x;
-        x += 1;
     }
 }
 

@@ -2,9 +2,8 @@
 use Rattle.std.specs.Prelude.{◌||◌, ◌*◌, ◌^◌, ℕ, eqb, ltb}
 use Rattle.sums.specs.Coefficient.{factorial}
 use Rattle.spline.specs.Multiplicities.{Multiplicities, degree}
-use Rattle.checks.specs.Checks.{and_then, refuse_if}
-use Rattle.checks.specs.declared.Checked.{Checked}
-use Rattle.checks.specs.declared.Checked.TheVariants.{Passed}
+use Rattle.checks.specs.Checks.{Checked, and_then, no_refusal, refuse_if}
+use Rattle.checks.specs.declared.Refusal.TheVariants.{BadDivisor, LargeLiveScale, LargeScale}
 
 -- Section 5.3: m!×D^m, which 11 and 15 are about
 abbrev pub scale : ℕ → ℕ → ℕ
@@ -17,7 +16,8 @@ limit = 281474976710656
 -- Section 5.3: 10 for a divisor out of bounds, 11 for one too large for the degree
 unfoldable pub divisor_checks : Multiplicities → ℕ → Checked
 divisor_checks v D =
-    refuse_if 10 (eqb D 0 || ltb 4096 D) (refuse_if 11 (ltb limit (scale (degree v) D)) Passed)
+    refuse_if BadDivisor (eqb D 0 || ltb 4096 D)
+    (refuse_if LargeScale (ltb limit (scale (degree v) D)) no_refusal)
 
 -- Section 5.3: the largest m!×D^m of a live call, 2^37
 abbrev pub live_limit : ℕ
@@ -25,7 +25,7 @@ live_limit = 137438953472
 
 -- Section 5.3: 15 for a divisor too large for a live call
 unfoldable pub live_scale_check : Multiplicities → ℕ → Checked
-live_scale_check v D = refuse_if 15 (ltb live_limit (scale (degree v) D)) Passed
+live_scale_check v D = refuse_if LargeLiveScale (ltb live_limit (scale (degree v) D)) no_refusal
 
 -- Section 5.3: 10, 11, 15
 unfoldable pub live_divisor_checks : Multiplicities → ℕ → Checked

@@ -15,11 +15,5 @@ pub fn edge_width(v: Vector, w1: usize, y: usize, z: usize) -> usize
     ensures stays { v.x ≤ w1
         → (x : ℕ) → result ≤ x → x < w1 → (v.x ≤ x) × (v.y ≤ y) × (v.z ≤ z) }
 {
-    if y < v.y {
-        return w1;
-    }
-    if z < v.z {
-        return w1;
-    }
-    v.x
+    if y < v.y || z < v.z { w1 } else { v.x }
 }

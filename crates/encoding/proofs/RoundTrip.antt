@@ -12,13 +12,11 @@ use lib.ListN.{length-map}
 use lib.Seq.{get_or-append-add}
 use Rattle.sums.proofs.Fill.{list-is-tabulate, tabulate-cong}
 use Rattle.sums.specs.Fill.{filled}
-use Rattle.checks.specs.declared.Checked.TheVariants.{Passed}
 use Rattle.allowed.proofs.Limits.{BlockLimits, sizes-limits}
 use Rattle.unit.proofs.Gaps.{certain}
 use Rattle.unit.specs.Gaps.{uncertain_gap}
 use Rattle.unit.specs.Unit.{with_block}
 use Rattle.unit.specs.declared.Unit.{Unit}
-use Rattle.unit.specs.declared.UnitAnswer.TheVariants.{Changed}
 use Rattle.file.specs.File.{correction, corrections_start, entry, entry_count, file_length, origin1, origin2}
 use Rattle.file.specs.File.{origin3, signed, size1, size2, size3, uncertainties_start, uncertainty, word}
 use Rattle.file_checks.proofs.Accepted.{accepted-file, accepted-layout}
@@ -26,6 +24,8 @@ use Rattle.field.proofs.Accepted.{accepted-load}
 use Rattle.field.specs.Load.{load_answer, load_checks, load_corrections, load_uncertainties}
 use Rattle.encoding.proofs.Bits.{bits_below, signed-bits}
 use Rattle.encoding.specs.Encoding.{WithinLimits, bits, encoding, little_endian}
+use Rattle.std.specs.Prelude.{Ok}
+use Rattle.checks.specs.Checks.{no_refusal}
 
 -- ---- 16-bit numbers as bytes
 
@@ -183,7 +183,7 @@ module _ (n1 n2 n3 : ℕ) (o1 o2 o3 : ℤ) (corrections : List ℤ) (uncertainti
   -- ---- the load
 
   module _ (c : List ℤ) (u : List ℕ) (room1 : n ≤ length c) (room2 : n ≤ length u) where
-    passed : load_checks file (length c) (length u) ≡ Passed
+    passed : load_checks file (length c) (length u) ≡ no_refusal
     passed =
         accepted-load file (length c) (length u)
         (accepted-file file
@@ -198,7 +198,7 @@ module _ (n1 n2 n3 : ℕ) (o1 o2 o3 : ℤ) (corrections : List ℤ) (uncertainti
         (rw count-is room1)
         (rw count-is room2)
 
-    answer : (unit : Unit) → load_answer unit file c u ≡ Changed (with_block unit n1 n2 n3 o1 o2 o3)
+    answer : (unit : Unit) → load_answer unit file c u ≡ Ok (with_block unit n1 n2 n3 o1 o2 o3)
     unfolding load_answer
     answer unit = simp (passed, size1-is, size2-is, size3-is, origin1-is, origin2-is, origin3-is)
 
@@ -219,7 +219,7 @@ module _ (n1 n2 n3 : ℕ) (o1 o2 o3 : ℤ) (corrections : List ℤ) (uncertainti
 
     -- the round trip, for any unit; past the n entries the slices are as found
     pub load-encoding : (unit : Unit)
-        → (load_answer unit file c u ≡ Changed (with_block unit n1 n2 n3 o1 o2 o3))
+        → (load_answer unit file c u ≡ Ok (with_block unit n1 n2 n3 o1 o2 o3))
         × (load_corrections file c u ≡ corrections ++ drop n c)
         × (load_uncertainties file c u ≡ uncertainties ++ drop n u)
     load-encoding unit = (answer unit, written1, written2)

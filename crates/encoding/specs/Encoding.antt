@@ -1,5 +1,6 @@
 -- The field file of given sizes, origin and entries, the way back from Section 8.2.
-use Rattle.std.specs.Prelude.{true, List, [], ◌++◌, ◌∷◌, map, ◌≡◌, ◌%◌, ◌*◌, ◌-◌, ◌/◌, ◌<◌, ◌≤◌, suc, ℕ, negsuc, pos, ℤ, get_or, length}
+use Rattle.std.specs.Prelude.{true, List, [], ◌++◌, ◌∷◌, map, ◌≡◌, ◌%◌, ◌*◌, ◌-◌, ◌/◌, ◌<◌, ◌≤◌, suc, ℕ}
+use Rattle.std.specs.Prelude.{negsuc, pos, ℤ, get_or, length}
 use Rattle.std.specs.Int.Signed.{mag}
 use Rattle.allowed.specs.Allowed.{sizes_allowed}
 use Rattle.unit.specs.Gaps.{is_gap}

@@ -1,18 +1,18 @@
 -- The checks of one entry: Section 8.3.
-use Rattle.std.specs.Prelude.{cond, ℕ, ltb, ℤ}
+use Rattle.std.specs.Prelude.{Err, cond, ltb, ℕ, ℤ}
 use Rattle.std.specs.Int.Bits.{bit_and}
-use Rattle.checks.specs.Checks.{refusal}
-use Rattle.checks.specs.declared.Checked.{Checked}
-use Rattle.checks.specs.declared.Checked.TheVariants.{Passed, Stopped}
 use Rattle.unit.specs.Gaps.{is_gap, uncertain_gap}
+use Rattle.checks.specs.Checks.{Checked, no_refusal}
+use Rattle.checks.specs.declared.Refusal.TheVariants.{LargeUncertainty, UncertainGap}
 
 -- Section 8.3: 8, on entry i alone
 abbrev pub limit_at : ℕ → ℕ → Checked
-limit_at i uncertainty = cond (ltb 32767 uncertainty) (Stopped (refusal 8 i)) Passed
+limit_at i uncertainty = cond (ltb 32767 uncertainty) (Err (LargeUncertainty i)) no_refusal
 
 -- Section 8.3: 16, on entry i alone
 abbrev pub gap_at : ℕ → ℤ → ℕ → Checked
-gap_at i correction uncertainty = cond (uncertain_gap correction uncertainty) (Stopped (refusal 16 i)) Passed
+gap_at i correction uncertainty =
+    cond (uncertain_gap correction uncertainty) (Err (UncertainGap i)) no_refusal
 
 -- the bits of an uncertainty that 8 and 16 forbid: of a gap all 16, else the highest
 abbrev pub forbidden : ℤ → ℕ

@@ -4,32 +4,29 @@
 ghost use Rattle.std.specs.Prelude.{◌≡◌};
 ghost use Rattle.entry_checks.specs.Entry.{fault_of, forbidden, gap_at, limit_at};
 
-use checks::Checked;
+use checks::Refusal;
 
 // The largest uncertainty.
 const UNCERTAINTY: u16 = 32767;
 
 // Check 8, on entry i alone.
-pub fn check_limit(i: usize, uncertainty: u16) -> Checked
+pub fn check_limit(i: usize, uncertainty: u16) -> Result<(), Refusal>
     ensures { result ≡ limit_at i uncertainty }
 {
     if UNCERTAINTY < uncertainty {
-        return Checked::stop(8, i);
+        return Err(Refusal::LargeUncertainty(i));
     }
-    Checked::Passed
+    Ok(())
 }
 
 // Check 16, on entry i alone.
-pub fn check_gap(i: usize, correction: i16, uncertainty: u16) -> Checked
+pub fn check_gap(i: usize, correction: i16, uncertainty: u16) -> Result<(), Refusal>
     ensures { result ≡ gap_at i correction uncertainty }
 {
-    if !unit::is_gap(correction) {
-        return Checked::Passed;
+    if unit::is_gap(correction) && 0 < uncertainty {
+        return Err(Refusal::UncertainGap(i));
     }
-    if 0 < uncertainty {
-        return Checked::stop(16, i);
-    }
-    Checked::Passed
+    Ok(())
 }
 
 // The bits of an entry's uncertainty that may not be set: of a gap all, else those over the limit.
@@ -37,9 +34,9 @@ fn forbidden_bits(correction: i16) -> u16
     ensures { result ≡ forbidden correction }
 {
     if unit::is_gap(correction) {
-        65535
+        u16::MAX
     } else {
-        32768
+        !UNCERTAINTY
     }
 }
 

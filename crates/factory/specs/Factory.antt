@@ -1,15 +1,13 @@
 -- What a call that copies the factory's net answers and leaves in its slice: Section 6.5.
-use Rattle.std.specs.Prelude.{List, ◌++◌, ℕ, ltb, drop, length}
+use Rattle.std.specs.Prelude.{Err, List, Ok, Result, drop, length, ltb, ℕ, ◌++◌}
 use Rattle.spline.specs.Box.{net_list, places, width}
 use Rattle.spline.specs.Defined.{defined}
 use Rattle.spline.specs.Multiplicities.{Multiplicities, multiplicities}
-use Rattle.checks.specs.Checks.{passed_or, refuse_if}
-use Rattle.checks.specs.declared.Checked.{Checked}
-use Rattle.checks.specs.declared.Checked.TheVariants.{Passed}
 use Rattle.unit.specs.Unit.{with_net}
 use Rattle.unit.specs.declared.Unit.{Unit}
-use Rattle.unit.specs.declared.UnitAnswer.{UnitAnswer}
-use Rattle.unit.specs.declared.UnitAnswer.TheVariants.{Changed, Refused}
+use Rattle.checks.specs.Checks.{Checked, no_refusal, passed_or, refuse_if}
+use Rattle.checks.specs.declared.Refusal.{Refusal}
+use Rattle.checks.specs.declared.Refusal.TheVariants.{NetRoom}
 
 -- Section 6.5: the multiplicities of the factory shape
 abbrev pub factory_shape : Multiplicities
@@ -25,11 +23,11 @@ factory_list = net_list (width factory_shape) (defined factory_shape)
 
 -- Section 6.5: 4, for a net slice of this length
 unfoldable pub factory_checks : ℕ → Checked
-factory_checks net_length = refuse_if 4 (ltb net_length factory_places) Passed
+factory_checks net_length = refuse_if NetRoom (ltb net_length factory_places) no_refusal
 
 -- Section 6.5: the answer
-unfoldable pub factory_answer : Unit → ℕ → UnitAnswer
-factory_answer u net_length = passed_or (factory_checks net_length) (Changed (with_net u factory_shape)) Refused
+unfoldable pub factory_answer : Unit → ℕ → Result Unit Refusal
+factory_answer u net_length = passed_or (factory_checks net_length) (Ok (with_net u factory_shape)) Err
 
 -- Section 6.5: the net slice afterwards, its box filled with the defined net
 unfoldable pub factory_net : List ℕ → List ℕ

@@ -9,45 +9,43 @@ ghost use Rattle.factory.specs.Factory.{factory_answer, factory_checks, factory_
 
 mod table;
 
-use checks::Checked;
-use unit::{Unit, UnitAnswer};
+use checks::Refusal;
+use unit::Unit;
 
 // The places of its box.
 const PLACES: usize = 2197;
 
 // Check 4, of a net slice of this length.
-fn check_room(net: usize) -> Checked
+#[tactic(auto, unfolding(crate::specs::Factory::factory_checks))]
+fn check_room(net: usize) -> Result<(), Refusal>
     ensures { result ≡ factory_checks net }
 {
     if net < PLACES {
-        return Checked::stop(4, 0);
+        return Err(Refusal::NetRoom);
     }
-    Checked::Passed
+    Ok(())
 }
 
 // Writes the table to the start of the net slice. The compiler makes stores to the slice of it: no copy of
-// the table stands on the stack.
+// the table stands on the stack. By copy_from_slice the table would stand in the archive, past its limit.
 fn lay_table(net: &mut [u32])
     requires { 2197 ≤ length net.old }
     ensures { net.new
         ≡ filled (defined_number factory_shape) 2197 net.old }
 {
     let numbers = table::TABLE;
-    let mut i = 0;
-    while i < PLACES {
+    for i in 0..PLACES {
         net[i] = numbers[i];
-        i += 1;
     }
 }
 
 // Copies the net of the factory shape to the start of the net slice, and its multiplicities to the unit.
-pub fn copy(unit: Unit, net: &mut [u32]) -> UnitAnswer
+#[tactic(auto, unfolding(crate::specs::Factory::factory_answer, crate::specs::Factory::factory_net))]
+pub fn copy(unit: Unit, net: &mut [u32]) -> Result<Unit, Refusal>
     ensures answer { result ≡ factory_answer unit (length net.old) }
     ensures net { net.new ≡ factory_net net.old }
 {
-    if let Checked::Stopped(refusal) = check_room(net.len()) {
-        return UnitAnswer::Refused(refusal);
-    }
+    check_room(net.len())?;
     lay_table(net);
-    UnitAnswer::Changed(unit.with_net(2, 2, 2, 1))
+    Ok(unit.with_net(2, 2, 2, 1))
 }

@@ -7,7 +7,6 @@ use lib.IntN.{ℤ}
 use lib.ListN.{length}
 use Rattle.sums.proofs.Fill.{filled-cong}
 use Rattle.checks.proofs.Checks.{then-passed}
-use Rattle.checks.specs.declared.Checked.TheVariants.{Passed}
 use Rattle.limits.proofs.Accepted.{room-passed}
 use Rattle.file.proofs.Counted.{behind-count}
 use Rattle.file.specs.File.{correction, entry, entry_count, file_length, uncertainties_start}
@@ -16,19 +15,21 @@ use Rattle.file_checks.specs.FileChecks.{file_checks}
 use Rattle.file_entries.proofs.Rooms.{all-written}
 use Rattle.file_entries.specs.Written.{written}
 use Rattle.field.specs.Load.{load_checks, load_corrections, load_uncertainties}
+use Rattle.checks.specs.Checks.{no_refusal}
 
 -- a load of an accepted file into slices with room is not refused
-pub accepted-load : (file : List ℕ) (corrections_length uncertainties_length : ℕ) → file_checks file ≡ Passed
+pub accepted-load : (file : List ℕ) (corrections_length uncertainties_length : ℕ)
+    → file_checks file ≡ no_refusal
     → entry_count file ≤ corrections_length → entry_count file ≤ uncertainties_length
-    → load_checks file corrections_length uncertainties_length ≡ Passed
+    → load_checks file corrections_length uncertainties_length ≡ no_refusal
 unfolding load_checks
 accepted-load file corrections_length uncertainties_length passed room1 room2 =
     simp (passed, le-ltb _ _ room1, le-ltb _ _ room2)
 
 module _ (file : List ℕ) (corrections : List ℤ) (uncertainties : List ℕ)
-    (passed : load_checks file (length corrections) (length uncertainties) ≡ Passed) where
+    (passed : load_checks file (length corrections) (length uncertainties) ≡ no_refusal) where
   -- where it is not, the file is accepted and both slices have room
-  parts : (file_checks file ≡ Passed)
+  parts : (file_checks file ≡ no_refusal)
       × (entry_count file ≤ length corrections) × (entry_count file ≤ length uncertainties)
   unfolding load_checks
   parts =

@@ -52,36 +52,25 @@ impl Origin {
 }
 
 // The unsigned 16-bit number that starts at a byte of the file.
+#[tactic(auto, unfolding(crate::specs::File::word))]
 fn word_at(file: &[u8], at: usize) -> u16
     ensures { result ≡ word file.now at }
 {
-    if file.len() <= at {
+    let Some(&low) = file.get(at) else {
         return 0;
-    }
-    let low = file[at] as u16;
-    if file.len() <= at + 1 {
-        return low;
-    }
-    let high = file[at + 1] as u16;
-    low + 256 * high
-}
-
-// The signed number of the same 16 bits.
-fn to_signed(w: u16) -> i16
-    ensures { result ≡ signed w }
-{
-    if w < 32768 {
-        w as i16
-    } else {
-        (w as i32 - 65536) as i16
-    }
+    };
+    let Some(&high) = file.get(at + 1) else {
+        return u16::from(low);
+    };
+    u16::from_le_bytes([low, high])
 }
 
 // The signed 16-bit number that starts at a byte of the file.
+#[tactic(auto, unfolding(crate::specs::File::signed))]
 fn signed_at(file: &[u8], at: usize) -> i16
     ensures { result ≡ signed (word file.now at) }
 {
-    to_signed(word_at(file, at))
+    word_at(file, at).cast_signed()
 }
 
 // The number of entries that the sizes give.
@@ -93,6 +82,7 @@ pub fn entries(file: &[u8]) -> usize
 }
 
 // The correction of entry i.
+#[tactic(auto, unfolding(crate::specs::File::correction))]
 pub fn correction_at(file: &[u8], i: u32) -> i16
     ensures { result ≡ correction file.now i }
 {

@@ -8,25 +8,26 @@ ghost use Rattle.file.specs.File.{correction, entry_count, uncertainty};
 ghost use Rattle.file_checks.specs.FileChecks.{file_checks, gap_check, layout_checks, limit_check};
 ghost use Rattle.file_checks.specs.Inner.Sound.{Sound};
 
-use checks::Checked;
+use checks::Refusal;
 use entry_checks::{check_gap, check_limit, fault};
 use file::{HEADER, Sizes, correction_at, entries, uncertainty_at};
 
 // Checks 5, 6, 7.
-fn check_layout(file: &[u8]) -> Checked
+#[tactic(auto, unfolding(crate::specs::FileChecks::layout_checks))]
+fn check_layout(file: &[u8]) -> Result<(), Refusal>
     ensures { result ≡ layout_checks file.now }
 {
     if file.len() < HEADER {
-        return Checked::stop(5, 0);
+        return Err(Refusal::ShortFile);
     }
     let sizes = Sizes::read(file);
     if !allowed::sizes_allowed(sizes.n1, sizes.n2, sizes.n3) {
-        return Checked::stop(6, 0);
+        return Err(Refusal::BadSizes);
     }
     if file.len() != HEADER + 4 * entries(file) {
-        return Checked::stop(7, 0);
+        return Err(Refusal::BadLength);
     }
-    Checked::Passed
+    Ok(())
 }
 
 // The faults of all n entries, joined by their bits: 0 only where none has one. Most files have none, and
@@ -41,40 +42,55 @@ fn faults(file: &[u8], n: u32) -> u16
     }
     let mut all = 0;
     for i in 0..n {
-        all = all | fault(correction_at(file, i), uncertainty_at(file, n, i));
+        all |= fault(correction_at(file, i), uncertainty_at(file, n, i));
     }
     all
 }
 
-// Checks 8 and 16.
-fn check_entries(file: &[u8], n: u32) -> Checked
+// Check 8, on all entries.
+fn check_limits(file: &[u8], n: u32) -> Result<(), Refusal>
+    requires { n ≡ entry_count file.now }
+    ensures { result ≡ limit_check n (uncertainty file.now) }
+{
+    let mut limit = Ok(());
+    for i in 0..n {
+        limit = limit.and(check_limit(i as usize, uncertainty_at(file, n, i)));
+    }
+    limit
+}
+
+// Check 16, on all entries.
+fn check_gaps(file: &[u8], n: u32) -> Result<(), Refusal>
+    requires { n ≡ entry_count file.now }
+    ensures { result ≡ gap_check n (correction file.now) (uncertainty file.now) }
+{
+    let mut gaps = Ok(());
+    for i in 0..n {
+        let uncertainty = uncertainty_at(file, n, i);
+        gaps = gaps.and(check_gap(i as usize, correction_at(file, i), uncertainty));
+    }
+    gaps
+}
+
+// Checks 8 and 16, one after the other: in one loop they take more stack.
+fn check_entries(file: &[u8], n: u32) -> Result<(), Refusal>
     requires { n ≡ entry_count file.now }
     ensures { result ≡ and_then (limit_check n (uncertainty file.now))
         (gap_check n (correction file.now) (uncertainty file.now)) }
 {
-    let mut limit = Checked::Passed;
-    let mut gaps = Checked::Passed;
-    for i in 0..n {
-        let place = i as usize;
-        let uncertainty = uncertainty_at(file, n, i);
-        let large = check_limit(place, uncertainty);
-        limit = limit.and_then(large);
-        let gap = check_gap(place, correction_at(file, i), uncertainty);
-        gaps = gaps.and_then(gap);
-    }
-    limit.and_then(gaps)
+    check_limits(file, n)?;
+    check_gaps(file, n)
 }
 
 // All checks of a file.
-pub fn check_file(file: &[u8]) -> Checked
+#[tactic(auto, unfolding(crate::specs::FileChecks::file_checks))]
+pub fn check_file(file: &[u8]) -> Result<(), Refusal>
     ensures { result ≡ file_checks file.now }
 {
-    if let Checked::Stopped(refusal) = check_layout(file) {
-        return Checked::Stopped(refusal);
-    }
+    check_layout(file)?;
     let n = entries(file) as u32;
     if faults(file, n) == 0 {
-        return Checked::Passed;
+        return Ok(());
     }
     check_entries(file, n)
 }

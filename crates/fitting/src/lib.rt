@@ -13,21 +13,12 @@ use unit::Unit;
 pub fn differences_fit(old: Shape, new: Shape, net: usize, work: usize) -> bool
     ensures { result ≡ differences_fit old new net work }
 {
-    if !shape::is_held(old, net) {
-        return false;
-    }
-    if !shape::is_held(new, work) {
-        return false;
-    }
-    old.m < Unit::DEGREE as usize
+    shape::is_held(old, net) && shape::is_held(new, work) && old.m < Unit::DEGREE as usize
 }
 
 // For the second: the box is within the limits, and both slices hold it.
 pub fn sums_fit(s: Shape, net: usize, work: usize) -> bool
     ensures { result ≡ sums_fit s net work }
 {
-    if !shape::is_held(s, net) {
-        return false;
-    }
-    shape::is_held(s, work)
+    shape::is_held(s, net) && shape::is_held(s, work)
 }

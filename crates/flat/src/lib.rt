@@ -5,9 +5,9 @@
 ghost use Rattle.std.specs.Prelude.{◌≡◌};
 ghost use Rattle.flat.specs.Flat.{flat_live, flat_placing, flat_point, switched_on};
 
-use answers::{LiveAnswer, PointAnswer};
+use answers::{Fraction, LiveValue};
 use axis_order::Placing;
-use placing::PlacingAnswer;
+use checks::Refusal;
 
 // What a placing call answers: 0, 0 and the placing; or the number and the place of a refusal and zeros.
 #[repr(C)]
@@ -42,53 +42,57 @@ pub struct FlatLiveAnswer {
 }
 
 // The answer of a placing call.
-pub fn flat_placing(answer: PlacingAnswer) -> FlatPlacingAnswer
-    ensures { result ≡ flat_placing answer }
-{
-    match answer {
-        PlacingAnswer::Placed(q) => FlatPlacingAnswer {
-            number: 0,
-            place: 0,
-            placing: q,
-        },
-        PlacingAnswer::Refused(refusal) => FlatPlacingAnswer {
-            number: refusal.number,
-            place: refusal.place,
-            placing: Placing {
-                k1: 0,
-                k2: 0,
-                k3: 0,
-                p: 0,
-                r: 0,
-                s: 0,
-                l0: 0,
-                l1: 0,
-                l2: 0,
-                l3: 0,
+impl From<Result<Placing, Refusal>> for FlatPlacingAnswer {
+    ghost from_gives = { λ answer r. r ≡ flat_placing answer };
+
+    fn from(answer: Result<Placing, Refusal>) -> FlatPlacingAnswer {
+        match answer {
+            Ok(q) => FlatPlacingAnswer {
+                number: 0,
+                place: 0,
+                placing: q,
             },
-        },
+            Err(refusal) => FlatPlacingAnswer {
+                number: refusal.number(),
+                place: refusal.place(),
+                placing: Placing {
+                    k1: 0,
+                    k2: 0,
+                    k3: 0,
+                    p: 0,
+                    r: 0,
+                    s: 0,
+                    l0: 0,
+                    l1: 0,
+                    l2: 0,
+                    l3: 0,
+                },
+            },
+        }
     }
 }
 
 // The answer of a point call or of a valuing call.
-pub fn flat_point(answer: PointAnswer) -> FlatPointAnswer
-    ensures { result ≡ flat_point answer }
-{
-    match answer {
-        PointAnswer::Value(value) => FlatPointAnswer {
-            number: 0,
-            place: 0,
-            numerator: value.numerator,
-            uncertainty: value.uncertainty,
-            denominator: value.denominator,
-        },
-        PointAnswer::Refused(refusal) => FlatPointAnswer {
-            number: refusal.number,
-            place: refusal.place,
-            numerator: 0,
-            uncertainty: 0,
-            denominator: 0,
-        },
+impl From<Result<Fraction, Refusal>> for FlatPointAnswer {
+    ghost from_gives = { λ answer r. r ≡ flat_point answer };
+
+    fn from(answer: Result<Fraction, Refusal>) -> FlatPointAnswer {
+        match answer {
+            Ok(value) => FlatPointAnswer {
+                number: 0,
+                place: 0,
+                numerator: value.numerator,
+                uncertainty: value.uncertainty,
+                denominator: value.denominator,
+            },
+            Err(refusal) => FlatPointAnswer {
+                number: refusal.number(),
+                place: refusal.place(),
+                numerator: 0,
+                uncertainty: 0,
+                denominator: 0,
+            },
+        }
     }
 }
 
@@ -100,27 +104,30 @@ pub fn switched_on(flag: u8) -> bool
 }
 
 // The answer of a live call or of a live valuing call.
-pub fn flat_live(answer: LiveAnswer) -> FlatLiveAnswer
-    ensures { result ≡ flat_live answer }
-{
-    match answer {
-        LiveAnswer::Both(floats) => FlatLiveAnswer {
-            number: 0,
-            place: 0,
-            numerator: floats.numerator,
-            uncertainty: floats.uncertainty,
-        },
-        LiveAnswer::Shift(numerator) => FlatLiveAnswer {
-            number: 0,
-            place: 0,
-            numerator: numerator,
-            uncertainty: 0.0,
-        },
-        LiveAnswer::Refused(refusal) => FlatLiveAnswer {
-            number: refusal.number,
-            place: refusal.place,
-            numerator: 0.0,
-            uncertainty: 0.0,
-        },
+impl From<Result<LiveValue, Refusal>> for FlatLiveAnswer {
+    ghost from_gives = { λ answer r. r ≡ flat_live answer };
+
+    #[tactic(auto, using(floats::proofs::Totals::zero_is))]
+    fn from(answer: Result<LiveValue, Refusal>) -> FlatLiveAnswer {
+        match answer {
+            Ok(LiveValue::Both(floats)) => FlatLiveAnswer {
+                number: 0,
+                place: 0,
+                numerator: floats.numerator,
+                uncertainty: floats.uncertainty,
+            },
+            Ok(LiveValue::Shift(numerator)) => FlatLiveAnswer {
+                number: 0,
+                place: 0,
+                numerator,
+                uncertainty: 0.0,
+            },
+            Err(refusal) => FlatLiveAnswer {
+                number: refusal.number(),
+                place: refusal.place(),
+                numerator: 0.0,
+                uncertainty: 0.0,
+            },
+        }
     }
 }

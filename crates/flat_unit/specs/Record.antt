@@ -1,9 +1,10 @@
 -- The unit record of the C interface, and the answers that carry one: Section 12.
-use Rattle.std.specs.Prelude.{eqb, pos}
+use Rattle.std.specs.Prelude.{Err, Ok, Result, eqb, pos}
 use Rattle.unit.specs.declared.Unit.{Unit}
-use Rattle.unit.specs.declared.UnitAnswer.{UnitAnswer}
 use Rattle.flat_unit.specs.declared.FlatUnit.{FlatUnit}
 use Rattle.flat_unit.specs.declared.FlatUnitAnswer.{FlatUnitAnswer}
+use Rattle.checks.specs.Checks.{number_of, place_of}
+use Rattle.checks.specs.declared.Refusal.{Refusal}
 
 -- Section 12.1: the unit that a record stands for; of a flag, 1 says present, and every other byte counts as
 -- absent
@@ -76,11 +77,11 @@ block_half before after = record {
 
 -- Section 12.2: the answer of a call that sets the net half and was handed the record `before`: a refusal's
 -- number and place and the record as it was, or 0, 0 and the record with the net
-abbrev pub flat_net : FlatUnit → UnitAnswer → FlatUnitAnswer
-flat_net before (UnitAnswer.Changed after) = record { number = 0; place = 0; unit = net_half before after }
-flat_net before (UnitAnswer.Refused r) = record { number = r.number; place = r.place; unit = before }
+abbrev pub flat_net : FlatUnit → Result Unit Refusal → FlatUnitAnswer
+flat_net before (Ok after) = record { number = 0; place = 0; unit = net_half before after }
+flat_net before (Err r) = record { number = number_of r; place = place_of r; unit = before }
 
 -- Section 12.2: the answer of a load, likewise
-abbrev pub flat_block : FlatUnit → UnitAnswer → FlatUnitAnswer
-flat_block before (UnitAnswer.Changed after) = record { number = 0; place = 0; unit = block_half before after }
-flat_block before (UnitAnswer.Refused r) = record { number = r.number; place = r.place; unit = before }
+abbrev pub flat_block : FlatUnit → Result Unit Refusal → FlatUnitAnswer
+flat_block before (Ok after) = record { number = 0; place = 0; unit = block_half before after }
+flat_block before (Err r) = record { number = number_of r; place = place_of r; unit = before }

@@ -2,10 +2,12 @@
 // bytes may stand in a record. docs/SPECIFICATION.md, Section 12.
 #![tactic(auto)]
 
-ghost use Rattle.std.specs.Prelude.{◌≡◌};
-ghost use Rattle.flat_unit.specs.Record.{empty_flat, flat_block, flat_net, unit_of};
+ghost use Rattle.std.specs.Prelude.{◌≡◌, IfErr, IfOk};
+ghost use Rattle.checks.specs.Checks.{number_of, place_of};
+ghost use Rattle.flat_unit.specs.Record.{block_half, empty_flat, flat_block, flat_net, net_half, unit_of};
 
-use unit::{Unit, UnitAnswer};
+use checks::Refusal;
+use unit::Unit;
 
 // The unit record with bytes as flags. 1 says present; every other byte counts as absent.
 #[repr(C)]
@@ -56,83 +58,91 @@ pub fn empty_flat() -> FlatUnit
 }
 
 // The unit that a record stands for.
-pub fn unit_of(flat: FlatUnit) -> Unit
-    ensures { result ≡ unit_of flat }
-{
-    Unit {
-        has_net: flat.has_net == 1,
-        v1: flat.v1,
-        v2: flat.v2,
-        v3: flat.v3,
-        v4: flat.v4,
-        has_block: flat.has_block == 1,
-        n1: flat.n1,
-        n2: flat.n2,
-        n3: flat.n3,
-        o1: flat.o1,
-        o2: flat.o2,
-        o3: flat.o3,
+impl From<FlatUnit> for Unit {
+    ghost from_gives = { λ flat unit. unit ≡ unit_of flat };
+
+    fn from(flat: FlatUnit) -> Unit {
+        Unit {
+            has_net: flat.has_net == 1,
+            v1: flat.v1,
+            v2: flat.v2,
+            v3: flat.v3,
+            v4: flat.v4,
+            has_block: flat.has_block == 1,
+            n1: flat.n1,
+            n2: flat.n2,
+            n3: flat.n3,
+            o1: flat.o1,
+            o2: flat.o2,
+            o3: flat.o3,
+        }
+    }
+}
+
+impl FlatUnit {
+    // The record with the net of a unit; its block half is kept.
+    fn with_net(self, unit: Unit) -> Self
+        ensures { result ≡ net_half self unit }
+    {
+        FlatUnit {
+            has_net: 1,
+            v1: unit.v1,
+            v2: unit.v2,
+            v3: unit.v3,
+            v4: unit.v4,
+            ..self
+        }
+    }
+
+    // The record with the block of a unit; its net half is kept.
+    fn with_block(self, unit: Unit) -> Self
+        ensures { result ≡ block_half self unit }
+    {
+        FlatUnit {
+            has_block: 1,
+            n1: unit.n1,
+            n2: unit.n2,
+            n3: unit.n3,
+            o1: unit.o1,
+            o2: unit.o2,
+            o3: unit.o3,
+            ..self
+        }
+    }
+}
+
+impl FlatUnitAnswer {
+    // The changed record, or the refusal and the record `before`.
+    fn of(before: FlatUnit, changed: Result<FlatUnit, Refusal>) -> Self
+        ensures ok { IfOk changed (λ unit. result ≡ record { number = 0; place = 0; unit = unit }) }
+        ensures err { IfErr changed (λ refusal. result
+            ≡ record { number = number_of refusal; place = place_of refusal; unit = before }) }
+    {
+        match changed {
+            Ok(unit) => FlatUnitAnswer {
+                number: 0,
+                place: 0,
+                unit,
+            },
+            Err(refusal) => FlatUnitAnswer {
+                number: refusal.number(),
+                place: refusal.place(),
+                unit: before,
+            },
+        }
     }
 }
 
 // The answer of a call that changes the net half of the record `before`.
-pub fn flat_net(before: FlatUnit, answer: UnitAnswer) -> FlatUnitAnswer
+pub fn flat_net(before: FlatUnit, answer: Result<Unit, Refusal>) -> FlatUnitAnswer
     ensures { result ≡ flat_net before answer }
 {
-    match answer {
-        UnitAnswer::Changed(after) => FlatUnitAnswer {
-            number: 0,
-            place: 0,
-            unit: FlatUnit {
-                has_net: 1,
-                v1: after.v1,
-                v2: after.v2,
-                v3: after.v3,
-                v4: after.v4,
-                has_block: before.has_block,
-                n1: before.n1,
-                n2: before.n2,
-                n3: before.n3,
-                o1: before.o1,
-                o2: before.o2,
-                o3: before.o3,
-            },
-        },
-        UnitAnswer::Refused(refusal) => FlatUnitAnswer {
-            number: refusal.number,
-            place: refusal.place,
-            unit: before,
-        },
-    }
+    FlatUnitAnswer::of(before, answer.map(|after| before.with_net(after)))
 }
 
 // The answer of a call that changes the block half of the record `before`.
-pub fn flat_block(before: FlatUnit, answer: UnitAnswer) -> FlatUnitAnswer
+pub fn flat_block(before: FlatUnit, answer: Result<Unit, Refusal>) -> FlatUnitAnswer
     ensures { result ≡ flat_block before answer }
 {
-    match answer {
-        UnitAnswer::Changed(after) => FlatUnitAnswer {
-            number: 0,
-            place: 0,
-            unit: FlatUnit {
-                has_net: before.has_net,
-                v1: before.v1,
-                v2: before.v2,
-                v3: before.v3,
-                v4: before.v4,
-                has_block: 1,
-                n1: after.n1,
-                n2: after.n2,
-                n3: after.n3,
-                o1: after.o1,
-                o2: after.o2,
-                o3: after.o3,
-            },
-        },
-        UnitAnswer::Refused(refusal) => FlatUnitAnswer {
-            number: refusal.number,
-            place: refusal.place,
-            unit: before,
-        },
-    }
+    FlatUnitAnswer::of(before, answer.map(|after| before.with_block(after)))
 }

@@ -17,10 +17,8 @@ pub fn powers(base: u32, m: usize) -> [f64; 10]
     if m > 9 {
         return p;
     }
-    let mut i = 0;
-    while i < m {
+    for i in 0..m {
         p[i + 1] = p[i] * x;
-        i += 1;
     }
     p
 }

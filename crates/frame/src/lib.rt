@@ -44,25 +44,20 @@ fn extent_of(v: u8, v4: u8) -> usize
 fn low_on(k: u32, e: usize) -> usize
     ensures { result ≡ k + 1 - e }
 {
-    let past = k as usize + 1;
-    if past < e {
-        return 0;
-    }
-    past - e
+    (k as usize + 1).saturating_sub(e)
 }
 
 // The step through the net's box along an axis.
+#[tactic(auto, unfolding(crate::specs::Frames::step_on))]
 fn step_on(axis: u8, w1: usize, w2: usize) -> usize
     requires { (w1 ≤ 518671) × (w2 ≤ 518671) }
     ensures { result ≡ step_on w1 w2 axis }
 {
-    if axis == 1 {
-        return 1;
+    match axis {
+        1 => 1,
+        2 => w1,
+        _ => w1 * w2,
     }
-    if axis == 2 {
-        return w1;
-    }
-    w1 * w2
 }
 
 pub fn framed(unit: Unit, q: Placing) -> Frame

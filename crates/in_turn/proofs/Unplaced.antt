@@ -5,9 +5,6 @@ use mathlib.Core.Path.{◌≡◌, refl}
 use Prim.Native.Nat.{ℕ}
 use lib.IntN.{ℤ}
 use lib.ListN.{length}
-use Rattle.checks.specs.Checks.{and_then, passed_or}
-use Rattle.checks.specs.declared.Checked.{Checked}
-use Rattle.checks.specs.declared.Checked.TheVariants.{Passed, Stopped}
 use Rattle.checks.specs.declared.Refusal.{Refusal}
 use Rattle.unit.specs.Unit.{net_of}
 use Rattle.unit.specs.declared.Unit.{Unit}
@@ -17,14 +14,13 @@ use Rattle.placing.specs.Place.{place_answer}
 use Rattle.answers.specs.Live.{live_answer}
 use Rattle.answers.specs.Point.{point_answer}
 use Rattle.in_turn.specs.Unplaced.{unplaced_live, unplaced_point}
-use Rattle.placing.specs.declared.PlacingAnswer.TheVariants as placings
 use Rattle.answers.proofs.Live as live
 use Rattle.answers.proofs.Point as point
-use Rattle.answers.specs.declared.LiveAnswer.TheVariants as lives
-use Rattle.answers.specs.declared.PointAnswer.TheVariants as points
+use Rattle.checks.specs.Checks.{Checked, and_then, passed_or}
+use Rattle.std.specs.Prelude.{Err, Ok}
 
 module _ (u : Unit) (net : List ℕ) (corrections : List ℤ) (uncertainties : List ℕ) (x y z : ℤ) (D : ℕ)
-    {r : Refusal} (h : place_answer u x y z D ≡ placings.Refused r) where
+    {r : Refusal} (h : place_answer u x y z D ≡ Err r) where
   abbrev lent : Checked
   lent = lent_checks u (length net) (length corrections) (length uncertainties)
 
@@ -35,9 +31,9 @@ module _ (u : Unit) (net : List ℕ) (corrections : List ℤ) (uncertainties : L
   point-unplaced = go lent refl
     where
       go : (k : Checked) → lent ≡ k
-          → passed_or k (points.Refused r) points.Refused ≡ point_answer u net corrections uncertainties x y z D
-      go Passed e = point.place-stops u net corrections uncertainties x y z D e h
-      go (Stopped s) e = point.lent-refused u net corrections uncertainties x y z D e
+          → passed_or k (Err r) Err ≡ point_answer u net corrections uncertainties x y z D
+      go (Ok _) e = point.place-stops u net corrections uncertainties x y z D e h
+      go (Err s) e = point.lent-refused u net corrections uncertainties x y z D e
 
   -- by the live call
   pub live-unplaced : (flag : Bool)
@@ -47,8 +43,8 @@ module _ (u : Unit) (net : List ℕ) (corrections : List ℤ) (uncertainties : L
   live-unplaced flag = go lent (live_divisor_checks (net_of u) D) refl refl
     where
       go : (k d : Checked) → lent ≡ k → live_divisor_checks (net_of u) D ≡ d
-          → passed_or (and_then k d) (lives.Refused r) lives.Refused
+          → passed_or (and_then k d) (Err r) Err
           ≡ live_answer u net corrections uncertainties x y z D flag
-      go (Stopped s) d e f = live.lent-refused u net corrections uncertainties x y z D flag e
-      go Passed (Stopped s) e f = live.divisor-refused u net corrections uncertainties x y z D flag e f
-      go Passed Passed e f = live.place-stops u net corrections uncertainties x y z D flag e f h
+      go (Err s) d e f = live.lent-refused u net corrections uncertainties x y z D flag e
+      go (Ok _) (Err s) e f = live.divisor-refused u net corrections uncertainties x y z D flag e f
+      go (Ok _) (Ok _) e f = live.place-stops u net corrections uncertainties x y z D flag e f h

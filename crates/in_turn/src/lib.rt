@@ -6,31 +6,30 @@ ghost use Rattle.std.specs.Prelude.{◌≡◌};
 ghost use Rattle.in_turn.specs.Early.{early_checks};
 ghost use Rattle.in_turn.specs.Unplaced.{unplaced_live, unplaced_point};
 
-use answers::{LiveAnswer, PointAnswer};
+use answers::{Fraction, LiveValue};
 use axis_order::Placing;
-use checks::{Checked, Refusal};
+use checks::Refusal;
 use unit::Unit;
 
 // What a point call refuses a point by that the placing call refuses: by what is lent, which is looked at
 // first, or else as that call does.
+#[tactic(auto, unfolding(crate::specs::Unplaced::unplaced_point))]
 pub fn unplaced_point(
     unit: Unit,
     net_length: usize,
     corrections_length: usize,
     uncertainties_length: usize,
     refusal: Refusal,
-) -> PointAnswer
+) -> Result<Fraction, Refusal>
     ensures { result ≡ unplaced_point unit net_length corrections_length uncertainties_length
         refusal }
 {
-    let lent = limits::check_lent(unit, net_length, corrections_length, uncertainties_length);
-    if let Checked::Stopped(first) = lent {
-        return PointAnswer::Refused(first);
-    }
-    PointAnswer::Refused(refusal)
+    limits::check_lent(unit, net_length, corrections_length, uncertainties_length)?;
+    Err(refusal)
 }
 
 // What a live call refuses it by: by what is lent, then by the divisor, or else as that call does.
+#[tactic(auto, unfolding(crate::specs::Unplaced::unplaced_live))]
 pub fn unplaced_live(
     unit: Unit,
     net_length: usize,
@@ -38,26 +37,22 @@ pub fn unplaced_live(
     uncertainties_length: usize,
     divisor: u32,
     refusal: Refusal,
-) -> LiveAnswer
+) -> Result<LiveValue, Refusal>
     ensures { result ≡ unplaced_live unit net_length corrections_length uncertainties_length divisor
         refusal }
 {
-    let lent = limits::check_lent(unit, net_length, corrections_length, uncertainties_length);
-    if let Checked::Stopped(first) = lent {
-        return LiveAnswer::Refused(first);
-    }
-    if let Checked::Stopped(first) = divisor_checks::check_live_divisor(unit, divisor as u64) {
-        return LiveAnswer::Refused(first);
-    }
-    LiveAnswer::Refused(refusal)
+    limits::check_lent(unit, net_length, corrections_length, uncertainties_length)?;
+    divisor_checks::check_live_divisor(unit, divisor as u64)?;
+    Err(refusal)
 }
 
 // Checks 21, 22, 17 and 15, where 15 may apply; where it does not, the others are left to the blending.
-pub fn check_early(unit: Unit, q: Placing) -> Checked
+#[tactic(auto, unfolding(crate::specs::Early::early_checks))]
+pub fn check_early(unit: Unit, q: Placing) -> Result<(), Refusal>
     ensures { result ≡ early_checks unit q }
 {
-    if let Checked::Stopped(refusal) = divisor_checks::check_live_divisor(unit, q.divisor()) {
+    if divisor_checks::check_live_divisor(unit, q.divisor()).is_err() {
         return possible::check_live_placing(unit, q);
     }
-    Checked::Passed
+    Ok(())
 }

@@ -1,15 +1,11 @@
 -- Typed bytes that are read one by one: where no more are wanted they are enough, and reading ends.
 use mathlib.Core.Bool.{Bool, cond, false, true}
 use mathlib.Core.List.{List, [], ◌++◌, ◌∷◌}
-use mathlib.Core.Path.{◌∙◌, ◌≡◌, ap, sym}
-use Prim.Native.Nat.{◌+◌, ◌-◌, ◌<◌, ◌≤◌, ℕ}
-use native.Mathlib.Numerals.{add-one}
+use mathlib.Core.Path.{◌≡◌, ap}
+use Prim.Native.Nat.{◌-◌, ◌<◌, ◌≤◌, ℕ}
 use native.Mathlib.Omega.{arith}
-use borrow.Author.Tests.{le-ltb, lt-ltb, ltb-false, ltb-true}
-use lib.Dec.{ltb}
-use lib.ListN.{length, length-append, set, take}
-use lib.Seq.{length-take-le, take_all, take-length, take-suc-set}
-use Rattle.sums.proofs.Cases.{by_order}
+use borrow.Author.Tests.{ltb-false, ltb-true}
+use lib.ListN.{length, length-append}
 use Rattle.input.proofs.Orders.{order-bounds}
 use Rattle.input.specs.Order.{order_length}
 use Rattle.input.specs.Reading.{wants_more, with_byte}
@@ -42,35 +38,3 @@ pub fewer-left : (s : List ℕ) (b : ℕ) → wants_more s ≡ true → left (wi
 unfolding wants_more left
 fewer-left s b e =
     omega (arith, ltb-true (length s) _ e, ap length (with-wanted s b e), length-append s (b ∷ []))
-
--- ---- the first n of an array's ten bytes
-module _ (s : List ℕ) (ten : length s ≡ 10) (n : ℕ) where
-  -- where n is below ten they are n, else all ten
-  pub taken-wants : wants_more (take n s) ≡ ltb n 10
-  unfolding wants_more
-  taken-wants =
-      by_order n 10
-      (λ (h : n < 10). ap (λ (k : ℕ). ltb k 10) (length-take-le n s (omega arith)))
-      (λ (h : 10 ≤ n). ap (λ (l : List ℕ). ltb (length l) 10) (take_all n s (omega arith))
-      ∙ le-ltb (length s) 10 (omega arith)
-      ∙ sym (le-ltb n 10 h))
-
-  -- a byte that is stored after them is one more
-  pub taken-stored : (b : ℕ) → n < 10 → take (n + 1) (set s n b) ≡ with_byte (take n s) b
-  taken-stored b h =
-      ap (λ (k : ℕ). take k (set s n b)) (add-one n)
-      ∙ take-suc-set s n b (omega arith)
-      ∙ sym (with-wanted (take n s) b (taken-wants ∙ lt-ltb n 10 h))
-
-  -- all ten take no more
-  pub taken-full : (b : ℕ) → 10 ≤ n → take n s ≡ with_byte (take n s) b
-  taken-full b h = sym (with-unwanted (take n s) b (taken-wants ∙ le-ltb n 10 h))
-
-  -- as many bytes as they are, from the start, are the same
-  pub taken-again : take (length (take n s)) s ≡ take n s
-  taken-again =
-      by_order n 10
-      (λ (h : n < 10). ap (λ (k : ℕ). take k s) (length-take-le n s (omega arith)))
-      (λ (h : 10 ≤ n).
-      let all = take_all n s (omega arith) in
-      ap (λ (l : List ℕ). take (length l) s) all ∙ take-length s ∙ sym all)

@@ -3,9 +3,9 @@
 #![tactic(auto)]
 
 ghost use Rattle.std.specs.Prelude.{[], ◌≡◌, ◌≤◌, min, ℕ, get_or, length};
+ghost use Rattle.input.specs.declared.TheConstants.{DECISIVE};
 ghost use Rattle.sums.specs.Fill.{filled};
 ghost use Rattle.input.specs.Order.{digit_number, order_length};
-ghost use Rattle.input.specs.Reading.{held, wants_more, with_byte};
 
 // Typed bytes past so many change nothing of what is printed.
 const DECISIVE: usize = 10;
@@ -13,41 +13,31 @@ const DECISIVE: usize = 10;
 // The typed bytes that have been read so far, one by one: the first `count` of `bytes`.
 #[derive(Clone, Copy)]
 pub struct Typed {
-    pub bytes: [u8; DECISIVE],
+    bytes: [u8; DECISIVE],
     count: usize,
-}
-
-fn least(a: usize, b: usize) -> usize
-    ensures { (result ≡ min a b) × (result ≤ a) × (result ≤ b) }
-{
-    if a < b { a } else { b }
+    ghost within: { count ≤ DECISIVE },
 }
 
 // A digit's number; 0 for any other byte.
+#[tactic(auto, unfolding(crate::specs::Order::digit_number))]
 fn digit_number(b: u8) -> u8
     ensures { result ≡ digit_number b }
 {
-    if b < b'0' {
-        return 0;
+    match b {
+        b'0'..=b'9' => b - b'0',
+        _ => 0,
     }
-    if b'9' < b {
-        return 0;
-    }
-    b - b'0'
 }
 
 // How many of the typed bytes are the order's: a final newline is not.
+#[tactic(auto, unfolding(crate::specs::Order::order_length))]
 fn order_length(typed: &[u8]) -> usize
     ensures { (result ≡ order_length typed.now) × (result ≤ length typed.now) }
 {
-    let n = typed.len();
-    if n == 0 {
-        return 0;
+    match typed {
+        [order @ .., b'\n'] => order.len(),
+        _ => typed.len(),
     }
-    if typed[n - 1] == b'\n' {
-        return n - 1;
-    }
-    n
 }
 
 // Puts the order's numbers at the start of a slice, as many as it holds, and answers how many.
@@ -56,16 +46,16 @@ pub fn read_order(typed: &[u8], order: &mut [u8]) -> usize
     ensures order { order.new
         ≡ filled (λ (i : ℕ). digit_number (get_or typed.now i 0)) result order.old }
 {
-    let n = least(order_length(typed), order.len());
-    let mut i = 0;
-    while i < n {
-        order[i] = digit_number(typed[i]);
-        i += 1;
+    let n = order_length(typed).min(order.len());
+    for (i, &byte) in typed[..n].iter().enumerate() {
+        order[i] = digit_number(byte);
     }
     n
 }
 
 impl Typed {
+    ghost use Rattle.input.specs.Reading.{held, wants_more, with_byte};
+
     pub fn nothing() -> Self
         ensures { held result ≡ [] }
     {
@@ -76,6 +66,7 @@ impl Typed {
     }
 
     // Whether a further byte could change what is printed: where not, none does (`ten-decide`).
+    #[tactic(auto, unfolding(crate::specs::Reading::wants_more))]
     pub fn wants_more(self) -> bool
         ensures { result ≡ wants_more (held self) }
     {
@@ -83,14 +74,15 @@ impl Typed {
     }
 
     // With the byte that was typed next; as they were where no more is wanted.
+    #[tactic(auto, unfolding(crate::specs::Reading::with_byte, crate::specs::Reading::wants_more))]
     pub fn with_byte(mut self, byte: u8) -> Self
         ensures { held result ≡ with_byte (held self) byte }
     {
-        let n = self.count;
-        if n < DECISIVE {
-            self.bytes[n] = byte;
-            self.count = n + 1;
+        if self.count == DECISIVE {
+            return self;
         }
+        self.bytes[self.count] = byte;
+        self.count += 1;
         self
     }
 
@@ -98,6 +90,13 @@ impl Typed {
     pub fn len(self) -> usize
         ensures { result ≡ length (held self) }
     {
-        least(self.count, DECISIVE)
+        self.count
+    }
+
+    // The bytes.
+    pub fn as_slice(&self) -> &[u8]
+        ensures { result.now ≡ held self.now }
+    {
+        &self.bytes[..self.count]
     }
 }

@@ -15,17 +15,15 @@ use Rattle.spline.specs.Box.{defined_number, places, width}
 use Rattle.spline.specs.Inner.Limits.{Limits}
 use Rattle.spline.specs.Multiplicities.{Multiplicities, allowed}
 use Rattle.spline.specs.Place.{Axis}
-use Rattle.checks.proofs.Checks.{if-passed, if-stopped, or-false}
-use Rattle.checks.specs.Checks.{refuse_at, refuse_if}
-use Rattle.checks.specs.declared.Checked.{Checked}
-use Rattle.checks.specs.declared.Checked.TheVariants.{Passed, Stopped}
-use Rattle.checks.specs.declared.Refusal.{Refusal}
+use Rattle.checks.proofs.Checks.{if-passed, or-false}
 use Rattle.allowed.proofs.Limits.{allowed-limits}
 use Rattle.shape.proofs.Shapes.{limits-boxed, limits-held, shape-widths}
 use Rattle.shape.specs.Shape.{held_in, shape_of, widths}
 use Rattle.inspection_checks.specs.Room.{shorter}
 use Rattle.comparison.specs.Compare.{comparison, differs, differs_from}
 use Rattle.inspection.specs.Inspect.{inspect_checks}
+use Rattle.checks.specs.Checks.{Checked, no_refusal, refuse_at, refuse_if}
+use Rattle.checks.specs.declared.Refusal.TheVariants.{BadMultiplicities, Differing, NetRoom}
 
 -- an inspection of a net, with these slices
 module _ (v : Multiplicities) (net defined : List ℕ) (work_length : ℕ) where
@@ -37,27 +35,18 @@ module _ (v : Multiplicities) (net defined : List ℕ) (work_length : ℕ) where
 
   -- 3 and 4
   abbrev pub given : Checked
-  given = refuse_if 3 (not (allowed v)) (refuse_if 4 short Passed)
-
-  -- where one of them stops, it stops all checks
-  pub given-stopped : (r : Refusal) → given ≡ Stopped r
-      → inspect_checks v net (length defined) work_length ≡ Stopped r
-  unfolding inspect_checks
-  given-stopped r h = go (not (allowed v)) h
-    where
-      go : (a : Bool) → refuse_if 3 a (refuse_if 4 short Passed) ≡ Stopped r
-          → refuse_if 3 a (refuse_if 4 short
-          (refuse_at 14 (first n (differs_from (defined_number v) net)) Passed)) ≡ Stopped r
-      go true k = k
-      go false k = if-stopped 4 short _ r k
+  given = refuse_if BadMultiplicities (not (allowed v)) (refuse_if NetRoom short no_refusal)
 
   -- both have passed
-  module _ (h : given ≡ Passed) where
+  module _ (h : given ≡ no_refusal) where
+    both : (not (allowed v) ≡ false) × (refuse_if NetRoom short no_refusal ≡ no_refusal)
+    both = if-passed BadMultiplicities (not (allowed v)) (refuse_if NetRoom short no_refusal) h
+
     fine : allowed v ≡ true
-    fine = not-false _ (if-passed 3 (not (allowed v)) (refuse_if 4 short Passed) h).0
+    fine = not-false _ both.0
 
     none : short ≡ false
-    none = (if-passed 4 short Passed (if-passed 3 (not (allowed v)) (refuse_if 4 short Passed) h).1).0
+    none = (if-passed NetRoom short no_refusal both.1).0
 
     -- the multiplicities are within their limits
     pub given-limits : Limits v 12
@@ -85,11 +74,12 @@ module _ (v : Multiplicities) (net defined : List ℕ) (work_length : ℕ) where
       laid-at i r = ap (λ (l : List ℕ). get_or l i 0) is ∙ filled_at (defined_number v) n defined i 0 r
 
       -- what differs from it is what differs from the defined net
-      found : refuse_at 14 (first (places (widths (shape_of v))) (differs net laid)) Passed
-          ≡ refuse_at 14 (first n (differs_from (defined_number v) net)) Passed
+      found : refuse_at Differing (first (places (widths (shape_of v))) (differs net laid)) no_refusal
+          ≡ refuse_at Differing (first n (differs_from (defined_number v) net)) no_refusal
       found =
-          ap (λ (W : Axis → ℕ). refuse_at 14 (first (places W) (differs net laid)) Passed) (shape-widths v)
-          ∙ ap (λ f. refuse_at 14 f Passed)
+          ap (λ (W : Axis → ℕ). refuse_at Differing (first (places W) (differs net laid)) no_refusal)
+          (shape-widths v)
+          ∙ ap (λ f. refuse_at Differing f no_refusal)
           (first_cong n _ _ (λ i r. ap (λ (k : ℕ). not (eqb (get_or net i 0) k)) (laid-at i r)))
 
       -- so the comparison with it is what is left of the checks

@@ -10,9 +10,9 @@ ghost use Rattle.spline.specs.Inner.Limits.{Limits};
 ghost use Rattle.shape.specs.Shape.{counted};
 ghost use Rattle.inspection.specs.Inspect.{inspect_checks, inspect_answer};
 
-use checks::Checked;
+use checks::Refusal;
 use shape::Counts;
-use unit::{Unit, UnitAnswer};
+use unit::Unit;
 
 // Writes the defined net.
 fn lay_defined(c: Counts, defined: &mut [u32], work: &mut [i32])
@@ -25,27 +25,26 @@ fn lay_defined(c: Counts, defined: &mut [u32], work: &mut [i32])
 {
     let order = defined_order::bytes_of(c);
     let n = c.v1 as usize + c.v2 as usize + c.v3 as usize + c.v4 as usize - 4;
-    net::build(Unit::empty(), &order[..n], defined, work);
+    let _ = net::build(Unit::empty(), &order[..n], defined, work);
 }
 
 // All checks of an inspection: 3, 4, 14.
-fn check_net(c: Counts, net: &[u32], defined: &mut [u32], work: &mut [i32]) -> Checked
+#[tactic(auto, unfolding(crate::specs::Inspect::inspect_checks))]
+fn check_net(c: Counts, net: &[u32], defined: &mut [u32], work: &mut [i32]) -> Result<(), Refusal>
     ensures value { result
         ≡ inspect_checks (counted c) net.now (length defined.old)
         (length work.old) }
     ensures defined_len_unchanged { length defined.new ≡ length defined.old }
     ensures work_len_unchanged { length work.new ≡ length work.old }
 {
-    let checked = inspection_checks::check_given(c, net.len(), defined.len(), work.len());
-    if let Checked::Stopped(refusal) = checked {
-        return Checked::Stopped(refusal);
-    }
+    inspection_checks::check_given(c, net.len(), defined.len(), work.len())?;
     lay_defined(c, defined, work);
     comparison::compare(net, defined, shape::shape_of(c))
 }
 
 // Whether the net slice holds the defined net of four multiplicities: the unit with that net, or a refusal.
 // The two other slices are work slices: they keep their lengths, and nothing more.
+#[tactic(auto, unfolding(crate::specs::Inspect::inspect_answer))]
 pub fn inspect(
     unit: Unit,
     v1: u8,
@@ -55,7 +54,7 @@ pub fn inspect(
     net: &[u32],
     defined: &mut [u32],
     work: &mut [i32],
-) -> UnitAnswer
+) -> Result<Unit, Refusal>
     ensures answer { result
         ≡ inspect_answer unit (multiplicities v1 v2 v3 v4) net.now
         (length defined.old) (length work.old) }
@@ -63,8 +62,6 @@ pub fn inspect(
     ensures work { length work.new ≡ length work.old }
 {
     let c = Counts { v1, v2, v3, v4 };
-    if let Checked::Stopped(refusal) = check_net(c, net, defined, work) {
-        return UnitAnswer::Refused(refusal);
-    }
-    UnitAnswer::Changed(unit.with_net(v1, v2, v3, v4))
+    check_net(c, net, defined, work)?;
+    Ok(unit.with_net(v1, v2, v3, v4))
 }

@@ -2,6 +2,7 @@
 use Rattle.std.specs.Prelude.{cond, List, [], ◌++◌, ◌∷◌, ℕ, eqb}
 use Rattle.text.specs.Text.{blank, item, newline, triple}
 use Rattle.checks.specs.declared.Refusal.{Refusal}
+use Rattle.checks.specs.Checks.{number_of}
 
 -- the bytes of `box` and `degree`, with the blank after each
 abbrev pub box_word : List ℕ
@@ -24,4 +25,4 @@ refused_word = 114 ∷ 101 ∷ 102 ∷ 117 ∷ 115 ∷ 101 ∷ 100 ∷ 32 ∷ []
 
 -- Section 13.2: the line of a refusal
 unfoldable pub refused_text : Refusal → List ℕ
-refused_text r = refused_word ++ item r.number newline
+refused_text r = refused_word ++ item (number_of r) newline

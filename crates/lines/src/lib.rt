@@ -13,7 +13,7 @@ pub fn put_refusal(out: &mut [u8], refusal: Refusal) -> usize
         × (length (refused_text refusal) ≤ 19) }
 {
     let at = text::put_word(out, 0, b"refused ");
-    text::put_item(out, at, refusal.number as usize, b'\n')
+    text::put_item(out, at, refusal.number() as usize, b'\n')
 }
 
 // The line of a box and its degree.

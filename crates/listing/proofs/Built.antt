@@ -10,7 +10,6 @@ use Rattle.spline.specs.Box.{net_list, place_of}
 use Rattle.spline.specs.Build.{direction, order_net}
 use Rattle.spline.specs.Inner.Limits.{Limits}
 use Rattle.spline.specs.Multiplicities.{order_multiplicities}
-use Rattle.checks.specs.declared.Checked.TheVariants.{Passed}
 use Rattle.unit.specs.Unit.{empty_unit, with_net}
 use Rattle.orders.proofs.Accepted.{BuildAccepted, build-accepted}
 use Rattle.builds.proofs.OrderNets.{order-at-most}
@@ -20,11 +19,12 @@ use Rattle.listing.proofs.Lengths.{net-length}
 use Rattle.listing.proofs.Printed.{net-text-cong, printed-made}
 use Rattle.listing.specs.Inner.Fit.{Listed}
 use Rattle.listing.specs.Print.{net_text, printed_order}
+use Rattle.checks.specs.Checks.{no_refusal}
 
 -- ---- the slice and the unit
 module _
     (o : List ℕ)
-    (passed : build_checks o 9261 9261 ≡ Passed)
+    (passed : build_checks o 9261 9261 ≡ no_refusal)
     (before net : List ℕ)
     (long : length before ≡ 9261)
     (built : net ≡ build_net o before 9261) where

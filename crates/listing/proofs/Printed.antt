@@ -13,8 +13,6 @@ use Rattle.spline.specs.Box.{places, width}
 use Rattle.spline.specs.Multiplicities.{Multiplicities, degree, order_multiplicities}
 use Rattle.spline.specs.Place.{a1, a2, a3}
 use Rattle.text.proofs.Puts.{joined-cong}
-use Rattle.checks.specs.Checks.{refusal}
-use Rattle.checks.specs.declared.Checked.TheVariants.{Passed, Stopped}
 use Rattle.checks.specs.declared.Refusal.{Refusal}
 use Rattle.shape.specs.Shape.{shape_of}
 use Rattle.shape.specs.declared.Shape.{Shape}
@@ -25,6 +23,9 @@ use Rattle.input.specs.Reading.{wants_more}
 use Rattle.lines.specs.Lines.{header_text, place_text, refused_text}
 use Rattle.listing.specs.Print.{net_text, places_text, printed, printed_order}
 use Rattle.orders.specs.Order.{build_checks, order_checks, order_number}
+use Rattle.std.specs.Prelude.{Err}
+use Rattle.checks.specs.Checks.{no_refusal}
+use Rattle.checks.specs.declared.Refusal.TheVariants.{LongOrder}
 
 -- ---- the text of a net
 -- only the numbers of the box count
@@ -49,23 +50,23 @@ net-lines v f s e = ap (λ (s : Shape). shape_text s f) e
 
 -- ---- served or refused
 -- an order that passes the checks prints its net
-pub printed-made : (o : List ℕ) → build_checks o 9261 9261 ≡ Passed
+pub printed-made : (o : List ℕ) → build_checks o 9261 9261 ≡ no_refusal
     → printed_order o ≡ net_text (order_multiplicities o) (order_number o)
 unfolding printed_order
 printed-made o e = simp e
 
 -- one that a check stops prints the refusal
-pub printed-refused : (o : List ℕ) (r : Refusal) → build_checks o 9261 9261 ≡ Stopped r
+pub printed-refused : (o : List ℕ) (r : Refusal) → build_checks o 9261 9261 ≡ Err r
     → printed_order o ≡ refused_text r
 unfolding printed_order
 printed-refused o r e = simp e
 
 -- ---- the first bytes decide
-long-refused : (o : List ℕ) → 8 < length o → printed_order o ≡ refused_text (refusal 1 0)
+long-refused : (o : List ℕ) → 8 < length o → printed_order o ≡ refused_text LongOrder
 unfolding order_checks build_checks
-long-refused o h = printed-refused o (refusal 1 0) (rw (lt-ltb 8 (length o) h))
+long-refused o h = printed-refused o LongOrder (rw (lt-ltb 8 (length o) h))
 
-typed_long : (s : List ℕ) → 8 < order_length s → printed s ≡ refused_text (refusal 1 0)
+typed_long : (s : List ℕ) → 8 < order_length s → printed s ≡ refused_text LongOrder
 unfolding printed
 typed_long s h = long-refused (typed_order s) (omega (arith, order-length s))
 

@@ -4,10 +4,10 @@ use Rattle.spline.specs.Box.{width}
 use Rattle.spline.specs.Multiplicities.{Multiplicities, degree, order_multiplicities}
 use Rattle.spline.specs.Place.{a1, a2, a3}
 use Rattle.text.specs.Text.{joined}
-use Rattle.checks.specs.Checks.{passed_or}
 use Rattle.input.specs.Order.{typed_order}
 use Rattle.lines.specs.Lines.{header_text, place_text, refused_text}
 use Rattle.orders.specs.Order.{build_checks, order_number}
+use Rattle.checks.specs.Checks.{passed_or}
 
 -- Section 13.2: the lines of all places of a box, f being the number at each index
 unfoldable pub places_text : ℕ → ℕ → ℕ → (ℕ → ℕ) → List ℕ

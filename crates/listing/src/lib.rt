@@ -11,7 +11,7 @@ ghost use Rattle.listing.specs.Print.{net_text, places_text, printed, printed_or
 
 use input::Typed;
 use shape::Counts;
-use unit::{Unit, UnitAnswer};
+use unit::Unit;
 
 // The most places of a box whose net is listed.
 pub const PLACES: usize = 9261;
@@ -27,11 +27,9 @@ fn put_places(out: &mut [u8], start: usize, net: &[u32], w1: usize, w2: usize, w
 {
     let n = w1 * w2 * w3;
     let mut at = start;
-    let mut i = 0;
-    while i < n {
+    for (i, &number) in net[..n].iter().enumerate() {
         let q = i / w1;
-        at = lines::put_place(out, at, i % w1, q % w2, q / w2, net[i]);
-        i += 1;
+        at = lines::put_place(out, at, i % w1, q % w2, q / w2, number);
     }
     at
 }
@@ -54,10 +52,9 @@ fn print_order(order: &[u8], out: &mut [u8]) -> usize
 {
     let mut net = [0u32; PLACES];
     let mut work = [0i32; PLACES];
-    let answer = net::build(Unit::empty(), order, &mut net, &mut work);
-    match answer {
-        UnitAnswer::Changed(unit) => put_net(out, unit, &net),
-        UnitAnswer::Refused(refusal) => lines::put_refusal(out, refusal),
+    match net::build(Unit::empty(), order, &mut net, &mut work) {
+        Ok(unit) => put_net(out, unit, &net),
+        Err(refusal) => lines::put_refusal(out, refusal),
     }
 }
 
@@ -80,7 +77,5 @@ pub fn print_typed(typed: Typed, out: &mut [u8; ROOM]) -> usize
     ensures text { out.new ≡ printed (held typed) ++ drop result out.old }
     ensures counted { (result ≤ length out.new) × (result ≡ length (take result out.new)) }
 {
-    let n = typed.len();
-    let bytes = typed.bytes;
-    print(&bytes[..n], out)
+    print(typed.as_slice(), out)
 }

@@ -19,35 +19,45 @@ use axis_order::Placing;
 use tetrahedron::local;
 use tetrahedron::local::LocalPlace;
 
-// C(n, k) × x^(n−k), from the powers of x, for whatever number the power is.
-fn factor(n: usize, k: usize, b: &[[u8; 10]; 10], x: &[f64; 10]) -> f64
-    requires { (k ≤ n) × (n ≤ 9) × (b.now ≡ binomial_table) }
-    ensures { (power : ℕ) → power ≤ limit → float_at x.now (n - k) ≡ float (pos power)
-        → result ≡ float (pos (binomial n k * power)) }
-{
-    b[n][k] as f64 * x[n - k]
+// A placing at degree m, with what the weights of its local places are made of: the binomials, and the powers
+// of L0 to L3.
+#[derive(Clone, Copy)]
+struct Weights<'a> {
+    m: usize,
+    q: Placing,
+    table: &'a [[u8; 10]; 10],
+    x0: &'a [f64; 10],
+    x1: &'a [f64; 10],
+    x2: &'a [f64; 10],
+    x3: &'a [f64; 10],
+    ghost scaled: { Scaled m q },
+    ghost binomials: { table.now ≡ binomial_table },
+    ghost powers: { FloatTables m q (float_at x0.now) (float_at x1.now) (float_at x2.now)
+        (float_at x3.now) },
 }
 
-// The weight of a local place, from the powers of L0 to L3.
-fn weight(
-    m: usize,
-    l: LocalPlace,
-    q: Placing,
-    b: &[[u8; 10]; 10],
-    x0: &[f64; 10],
-    x1: &[f64; 10],
-    x2: &[f64; 10],
-    x3: &[f64; 10],
-) -> f64
-    requires { Scaled m q × WithinDegree m l × (b.now ≡ binomial_table)
-        × FloatTables m q (float_at x0.now) (float_at x1.now) (float_at x2.now) (float_at x3.now) }
-    ensures { result ≡ float (pos (term_weight m q (m - l.p) (l.p - l.r) (l.r - l.s) l.s)) }
-{
-    let s = l.s;
-    let w0 = factor(m, l.p, b, x0);
-    let w1 = factor(l.p, l.r, b, x1);
-    let w2 = factor(l.r, s, b, x2);
-    w0 * w1 * w2 * x3[s]
+impl<'a> Weights<'a> {
+    // C(n, k) × x^(n−k), from the powers of x, for whatever number the power is.
+    fn factor(self, n: usize, k: usize, x: &[f64; 10]) -> f64
+        requires { (k ≤ n) × (n ≤ 9) }
+        ensures { (power : ℕ) → power ≤ limit → float_at x.now (n - k) ≡ float (pos power)
+            → result ≡ float (pos (binomial n k * power)) }
+    {
+        self.table[n][k] as f64 * x[n - k]
+    }
+
+    // The weight of a local place.
+    fn weight(self, l: LocalPlace) -> f64
+        requires { WithinDegree self.m l }
+        ensures { result ≡ float (pos (term_weight self.entry.m self.entry.q
+            (self.entry.m - l.p) (l.p - l.r) (l.r - l.s) l.s)) }
+    {
+        let s = l.s;
+        let w0 = self.factor(self.m, l.p, self.x0);
+        let w1 = self.factor(l.p, l.r, self.x1);
+        let w2 = self.factor(l.r, s, self.x2);
+        w0 * w1 * w2 * self.x3[s]
+    }
 }
 
 // The blended numbers times a weight. An unsigned number is turned by way of a signed one, which is faster.
@@ -75,11 +85,20 @@ pub(crate) fn float_sums(m: usize, q: Placing, shifts: &[i64; 220], spreads: &[u
         × (result.uncertainty ≡ float (pos
         (parts_to m q (signed_at shifts.now) (number_at spreads.now)).uncertainty)) }
 {
-    let b = binomials::table();
+    let table = binomials::table();
     let x0 = floats::powers(q.l0, m);
     let x1 = floats::powers(q.l1, m);
     let x2 = floats::powers(q.l2, m);
     let x3 = floats::powers(q.l3, m);
+    let weights = Weights {
+        m,
+        q,
+        table: &table,
+        x0: &x0,
+        x1: &x1,
+        x2: &x2,
+        x3: &x3,
+    };
     let count = local::local_places(m);
     let first = term(shifts[0], spreads[0], x0[m]);
     let n = first.numerator;
@@ -87,17 +106,15 @@ pub(crate) fn float_sums(m: usize, q: Placing, shifts: &[i64; 220], spreads: &[u
     let mut numerator = 0.0 + n;
     let mut uncertainty = 0.0 + u;
     let mut l = LocalPlace::first().next();
-    let mut t = 1;
-    while t < count {
-        let w = weight(m, l, q, &b, &x0, &x1, &x2, &x3);
+    for t in 1..count {
+        let w = weights.weight(l);
         let part = term(shifts[t], spreads[t], w);
-        numerator = numerator + part.numerator;
-        uncertainty = uncertainty + part.uncertainty;
+        numerator += part.numerator;
+        uncertainty += part.uncertainty;
         l = l.next();
-        t += 1;
     }
     Floats {
-        numerator: numerator,
-        uncertainty: uncertainty,
+        numerator,
+        uncertainty,
     }
 }

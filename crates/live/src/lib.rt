@@ -13,10 +13,11 @@ ghost use Rattle.answers.specs.Live.{live_answer, live_value, live_valuing_answe
 ghost use Rattle.parts.specs.Parts.{BlendedSizes, parts_to};
 ghost use Rattle.parts.specs.Weights.{Scaled};
 
-use answers::LiveAnswer;
+use answers::LiveValue;
 use axis_order::Placing;
-use checks::Checked;
-use placing::PlacingAnswer;
+use blending::lent::Lent;
+use checks::Refusal;
+use placing::Point;
 use shape::Counts;
 use unit::Unit;
 
@@ -29,7 +30,7 @@ fn summed(
     shifts: &[i64; 220],
     spreads: &[u64; 220],
     with_uncertainty: bool,
-) -> LiveAnswer
+) -> LiveValue
     requires { Scaled (degree (net_of unit)) q × (scale (degree (net_of unit)) (weight_sum q) ≤ live_limit)
         × BlendedSizes (degree (net_of unit)) (signed_at shifts.now) (number_at spreads.now) }
     ensures { result ≡ live_value with_uncertainty
@@ -41,84 +42,59 @@ fn summed(
     let m = shape::degree_of(Counts::of_unit(unit));
     let sums = bernstein::float_sums(m, q, shifts, spreads);
     if with_uncertainty {
-        return LiveAnswer::Both(sums);
+        return LiveValue::Both(sums);
     }
-    LiveAnswer::Shift(sums.numerator)
+    LiveValue::Shift(sums.numerator)
 }
 
 // N and U as floats at a placing, N alone where the flag is off, or the first refusal that applies of 21, 22,
 // 17, 15, 4, 9, 13, 23, with the lowest index of a gap for 13.
 pub fn value(
     unit: Unit,
-    net: &[u32],
-    corrections: &[i16],
-    uncertainties: &[u16],
+    lent: Lent<'_>,
     q: Placing,
     with_uncertainty: bool,
-) -> LiveAnswer
-    ensures { result ≡ live_valuing_answer unit net.now corrections.now
-        uncertainties.now q with_uncertainty }
+) -> Result<LiveValue, Refusal>
+    ensures { result ≡ live_valuing_answer unit lent.entry.net.now lent.entry.corrections.now
+        lent.entry.uncertainties.now q with_uncertainty }
 {
-    if let Checked::Stopped(refusal) = in_turn::check_early(unit, q) {
-        return LiveAnswer::Refused(refusal);
-    }
+    in_turn::check_early(unit, q)?;
     let mut shifts = [0i64; 220];
     let mut spreads = [0u64; 220];
-    let blended = blending::blend(
-        unit,
-        net,
-        corrections,
-        uncertainties,
-        q,
-        &mut shifts,
-        &mut spreads,
-    );
-    if let Checked::Stopped(refusal) = blended {
-        return LiveAnswer::Refused(refusal);
-    }
-    summed(unit, q, &shifts, &spreads, with_uncertainty)
+    blending::blend(unit, lent, q, &mut shifts, &mut spreads)?;
+    Ok(summed(unit, q, &shifts, &spreads, with_uncertainty))
 }
 
-// N and U as floats at the point X, Y, Z over a divisor, N alone where the flag is off, or the first refusal
-// that applies of 21, 22, 4, 9, 10, 11, 15, 12, 13, 23, with the lowest index of a gap for 13. The
-// point is placed and valued; 4 and 9 stand before 15 here, so they are looked at before it is valued, and
-// where it is not placed they come first, and then 15.
+// N and U as floats at a point, N alone where the flag is off, or the first refusal that applies of 21, 22,
+// 4, 9, 10, 11, 15, 12, 13, 23, with the lowest index of a gap for 13. The point is placed and valued; 4 and
+// 9 stand before 15 here, so they are looked at before it is valued, and where it is not placed they come
+// first, and then 15.
 pub fn answer(
     unit: Unit,
-    net: &[u32],
-    corrections: &[i16],
-    uncertainties: &[u16],
-    x: i32,
-    y: i32,
-    z: i32,
-    divisor: u32,
+    lent: Lent<'_>,
+    at: Point,
     with_uncertainty: bool,
-) -> LiveAnswer
-    ensures { result ≡ live_answer unit net.now corrections.now
-        uncertainties.now x y z divisor with_uncertainty }
+) -> Result<LiveValue, Refusal>
+    ensures { result ≡ live_answer unit lent.entry.net.now lent.entry.corrections.now
+        lent.entry.uncertainties.now at.x at.y at.z at.divisor with_uncertainty }
 {
-    let placed = placing::place(unit, x, y, z, divisor);
-    match placed {
-        PlacingAnswer::Placed(q) => {
-            if let Checked::Stopped(refusal) = limits::check_room(
+    match placing::place(unit, at) {
+        Ok(q) => {
+            limits::check_room(
                 unit,
-                net.len(),
-                corrections.len(),
-                uncertainties.len(),
-            ) {
-                return LiveAnswer::Refused(refusal);
-            }
-            value(unit, net, corrections, uncertainties, q, with_uncertainty)
+                lent.net.len(),
+                lent.corrections.len(),
+                lent.uncertainties.len(),
+            )?;
+            value(unit, lent, q, with_uncertainty)
         }
-        PlacingAnswer::Refused(refusal) => {
-            in_turn::unplaced_live(
-                unit,
-                net.len(),
-                corrections.len(),
-                uncertainties.len(),
-                divisor,
-                refusal,
-            )
-        }
+        Err(refusal) => in_turn::unplaced_live(
+            unit,
+            lent.net.len(),
+            lent.corrections.len(),
+            lent.uncertainties.len(),
+            at.divisor,
+            refusal,
+        ),
     }
 }

@@ -7,11 +7,12 @@ ghost use Rattle.builds.specs.Build.{build_answer, build_net, BuildWork};
 
 mod repeat;
 
-use checks::Checked;
-use unit::{Unit, UnitAnswer};
+use checks::Refusal;
+use unit::Unit;
 
 // Builds the net of an order: it goes to the start of the net slice, and its multiplicities to the unit.
-pub fn build(unit: Unit, order: &[u8], net: &mut [u32], work: &mut [i32]) -> UnitAnswer
+#[tactic(auto, unfolding(builds::specs::Build::build_answer))]
+pub fn build(unit: Unit, order: &[u8], net: &mut [u32], work: &mut [i32]) -> Result<Unit, Refusal>
     ensures answer { result
         ≡ build_answer unit order.now (length net.old) (length work.old) }
     ensures net { net.new
@@ -19,9 +20,7 @@ pub fn build(unit: Unit, order: &[u8], net: &mut [u32], work: &mut [i32]) -> Uni
     ensures work { BuildWork order.now (length net.old)
         work.old work.new }
 {
-    if let Checked::Stopped(refusal) = orders::check_build(order, net.len(), work.len()) {
-        return UnitAnswer::Refused(refusal);
-    }
+    orders::check_build(order, net.len(), work.len())?;
     let c = repeat::run(order, net, work);
-    UnitAnswer::Changed(unit.with_net(c.v1, c.v2, c.v3, c.v4))
+    Ok(unit.with_net(c.v1, c.v2, c.v3, c.v4))
 }

@@ -11,24 +11,13 @@ ghost use Rattle.builds.specs.Repeat.{work_between, net_repeated, taken_up};
 
 use shape::Counts;
 
-// The number of the simple net at an index of its box: 1 at (1, 1, 1).
-fn simple_number(i: usize) -> u32
-    requires { i < 27 }
-    ensures { result ≡ order_number [] i }
-{
-    if i == 13 { 1 } else { 0 }
-}
-
-// Writes the simple net.
+// Writes the simple net, in its box of 3×3×3 places: 1 at (1, 1, 1), 0 elsewhere.
 fn lay_simple(net: &mut [u32])
     requires { 27 ≤ length net.old }
     ensures { net.new ≡ filled (order_number []) 27 net.old }
 {
-    let mut i = 0;
-    while i < 27 {
-        net[i] = simple_number(i);
-        i += 1;
-    }
+    net[..27].fill(0);
+    net[13] = 1;
 }
 
 // Takes up a repeat of direction d, from the net of multiplicities c: the differences first, then their sums
@@ -65,10 +54,8 @@ pub(crate) fn run(order: &[u8], net: &mut [u32], work: &mut [i32]) -> Counts
         v3: 1,
         v4: 1,
     };
-    let mut t = 0;
-    while t < order.len() {
-        c = take_up(c, order[t], net, work);
-        t += 1;
+    for &d in order {
+        c = take_up(c, d, net, work);
     }
     c
 }

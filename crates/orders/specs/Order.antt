@@ -5,9 +5,8 @@ use Rattle.spline.specs.Box.{place_of, places, width}
 use Rattle.spline.specs.Build.{order_net}
 use Rattle.spline.specs.Multiplicities.{order_multiplicities}
 use Rattle.spline.specs.Place.{Axis}
-use Rattle.checks.specs.Checks.{and_then, refuse_at, refuse_if}
-use Rattle.checks.specs.declared.Checked.{Checked}
-use Rattle.checks.specs.declared.Checked.TheVariants.{Passed}
+use Rattle.checks.specs.Checks.{Checked, and_then, no_refusal, refuse_at, refuse_if}
+use Rattle.checks.specs.declared.Refusal.TheVariants.{BadByte, LongOrder, NetRoom}
 
 -- Section 5.3: the condition of 2, for one byte
 abbrev pub bad_byte : ℕ → Bool
@@ -16,8 +15,8 @@ bad_byte b = not (leb 1 b && leb b 4)
 -- Section 6.1: 1, then 2 at the first bad byte
 unfoldable pub order_checks : List ℕ → Checked
 order_checks order =
-    refuse_if 1 (ltb 8 (length order))
-    (refuse_at 2 (first (length order) (λ i. bad_byte (get_or order i 0))) Passed)
+    refuse_if LongOrder (ltb 8 (length order))
+    (refuse_at BadByte (first (length order) (λ i. bad_byte (get_or order i 0))) no_refusal)
 
 -- Section 2.4: the widths of the box that an order leads to
 abbrev pub order_width : List ℕ → Axis → ℕ
@@ -35,4 +34,5 @@ order_number order i = order_net order (place_of (order_width order) i)
 unfoldable pub build_checks : List ℕ → ℕ → ℕ → Checked
 build_checks order net_length work_length =
     and_then (order_checks order)
-    (refuse_if 4 (ltb net_length (order_places order) || ltb work_length (order_places order)) Passed)
+    (refuse_if NetRoom (ltb net_length (order_places order) || ltb work_length (order_places order))
+    no_refusal)

@@ -2,16 +2,17 @@
 #![tactic(auto)]
 
 ghost use Rattle.std.specs.Prelude.{cond, ◌≡◌, length, get_or};
+ghost use Rattle.checks.specs.declared.Refusal.TheVariants.{BadByte};
 ghost use Rattle.sums.specs.Search.{first};
 ghost use Rattle.spline.specs.Build.{direction};
 ghost use Rattle.spline.specs.Multiplicities.{allowed, more, order_multiplicities};
 ghost use Rattle.spline.specs.Inner.Limits.{Limits};
-ghost use Rattle.checks.specs.Checks.{refuse_at};
+ghost use Rattle.checks.specs.Checks.{no_refusal, refuse_at};
 ghost use Rattle.shape.specs.Shape.{counted};
 ghost use Rattle.orders.specs.Order.{bad_byte, order_checks, build_checks};
 ghost use Rattle.orders.specs.Inner.GoodOrder.{GoodOrder};
 
-use checks::Checked;
+use checks::Refusal;
 use shape::Counts;
 
 // The most repeats of an order.
@@ -22,21 +23,12 @@ fn repeated(c: Counts, d: u8) -> Counts
     requires { Limits (counted c) 12 }
     ensures { counted result ≡ more (direction d) (counted c) }
 {
-    let mut k = c;
-    if d == 1 {
-        k.v1 = c.v1 + 1;
-        return k;
+    match d {
+        1 => Counts { v1: c.v1 + 1, ..c },
+        2 => Counts { v2: c.v2 + 1, ..c },
+        3 => Counts { v3: c.v3 + 1, ..c },
+        _ => Counts { v4: c.v4 + 1, ..c },
     }
-    if d == 2 {
-        k.v2 = c.v2 + 1;
-        return k;
-    }
-    if d == 3 {
-        k.v3 = c.v3 + 1;
-        return k;
-    }
-    k.v4 = c.v4 + 1;
-    k
 }
 
 // The same of any: those outside of the limits stay as they are.
@@ -61,56 +53,46 @@ fn counts_of(order: &[u8]) -> Counts
         v3: 1,
         v4: 1,
     };
-    let mut t = 0;
-    while t < order.len() {
-        c = repeated(c, order[t]);
-        t += 1;
+    for &d in order {
+        c = repeated(c, d);
     }
     c
 }
 
 // Check 2.
-fn check_bytes(order: &[u8]) -> Checked
+fn check_bytes(order: &[u8]) -> Result<(), Refusal>
     ensures { result
-        ≡ refuse_at 2 (first (length order.now) (λ i. bad_byte (get_or order.now i 0)))
-        Checked.Passed }
+        ≡ refuse_at BadByte (first (length order.now) (λ i. bad_byte (get_or order.now i 0)))
+        no_refusal }
 {
-    let mut i = 0;
-    while i < order.len() {
-        if order[i] < 1 {
-            return Checked::stop(2, i);
+    for (i, &byte) in order.iter().enumerate() {
+        if byte < 1 || 4 < byte {
+            return Err(Refusal::BadByte(i));
         }
-        if 4 < order[i] {
-            return Checked::stop(2, i);
-        }
-        i += 1;
     }
-    Checked::Passed
+    Ok(())
 }
 
 // Checks 1 and 2.
-fn check_order(order: &[u8]) -> Checked
+#[tactic(auto, unfolding(crate::specs::Order::order_checks))]
+fn check_order(order: &[u8]) -> Result<(), Refusal>
     ensures { result ≡ order_checks order.now }
 {
     if REPEATS < order.len() {
-        return Checked::stop(1, 0);
+        return Err(Refusal::LongOrder);
     }
     check_bytes(order)
 }
 
 // Checks 1, 2 and 4, by the lengths of the two slices.
-pub fn check_build(order: &[u8], net: usize, work: usize) -> Checked
+#[tactic(auto, unfolding(crate::specs::Order::build_checks))]
+pub fn check_build(order: &[u8], net: usize, work: usize) -> Result<(), Refusal>
     ensures { result ≡ build_checks order.now net work }
 {
-    if let Checked::Stopped(refusal) = check_order(order) {
-        return Checked::Stopped(refusal);
-    }
+    check_order(order)?;
     let n = shape::places_of(counts_of(order));
-    if net < n {
-        return Checked::stop(4, 0);
+    if net < n || work < n {
+        return Err(Refusal::NetRoom);
     }
-    if work < n {
-        return Checked::stop(4, 0);
-    }
-    Checked::Passed
+    Ok(())
 }

@@ -9,8 +9,6 @@ use Rattle.sums.proofs.Fill.{filled_at}
 use Rattle.sums.specs.Fill.{number_at, signed_at}
 use Rattle.spline.specs.Multiplicities.{degree}
 use Rattle.checks.proofs.Checks.{then-passed}
-use Rattle.checks.specs.declared.Checked.{Checked}
-use Rattle.checks.specs.declared.Checked.TheVariants.{Passed}
 use Rattle.unit.proofs.Limits.{net-limits}
 use Rattle.unit.specs.Unit.{net_of}
 use Rattle.unit.specs.declared.Unit.{Unit}
@@ -27,6 +25,7 @@ use Rattle.parts.specs.declared.Part.{Part}
 use Rattle.blended.specs.Blend.{blend_checks, Sized, blended_correction_at, blended_uncertainty_at, written_if}
 use Rattle.tetrahedron.specs.LocalPlaces.{local_places}
 use Rattle.blended.proofs.Answers.{all-written}
+use Rattle.checks.specs.Checks.{Checked, no_refusal}
 
 module _ (u : Unit) (net : List ℕ) (corrections : List ℤ) (uncertainties : List ℕ) where
   abbrev m : ℕ
@@ -40,7 +39,7 @@ module _ (u : Unit) (net : List ℕ) (corrections : List ℤ) (uncertainties : L
         ≡ fraction_at u net corrections uncertainties q (weight_sum q)
 
   -- a placing that a blending lets pass has its denominator within 2^48
-  pub value-scaled : (q : Placing) → blend_checks u net corrections uncertainties q ≡ Passed → Scaled m q
+  pub value-scaled : (q : Placing) → blend_checks u net corrections uncertainties q ≡ no_refusal → Scaled m q
   unfolding blend_checks
   value-scaled q e =
       let placed = placed_checks u q (length net) (length corrections) (length uncertainties) in
@@ -52,14 +51,14 @@ module _ (u : Unit) (net : List ℕ) (corrections : List ℤ) (uncertainties : L
       }
 
   -- what is written holds the numbers
-  written_at : {A : Type 0} (f : ℕ → A) (k : Checked) (d : List A) (a : A) → k ≡ Passed
+  written_at : {A : Type 0} (f : ℕ → A) (k : Checked) (d : List A) (a : A) → k ≡ no_refusal
       → (t : ℕ) → t < local_places m → get_or (written_if k f u d) t a ≡ f t
   written_at f k d a e t h =
       ap (λ l. get_or l t a) (all-written f u d e) ∙ filled_at f (local_places m) d t a h
 
   -- a blending that has passed its checks has left all this
   module _ {q : Placing} {k : Checked} {shifts : List ℤ} {spreads : List ℕ} (d : List ℤ) (e : List ℕ)
-      (passed : k ≡ Passed)
+      (passed : k ≡ no_refusal)
       (scaled : Scaled m q)
       (shifts-are : shifts ≡ written_if k (blended_correction_at u net corrections q) u d)
       (spreads-are : spreads ≡ written_if k (blended_uncertainty_at u net uncertainties q) u e)

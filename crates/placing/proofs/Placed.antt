@@ -1,14 +1,10 @@
 -- A unit and a point that passed their checks.
 use mathlib.Core.Bool.{true}
-use mathlib.Core.Path.{◌≡◌, refl}
+use mathlib.Core.Path.{◌≡◌}
 use Prim.Native.Nat.{ℕ}
-use native.Mathlib.Omega.{arith}
 use borrow.Author.Tests.{not-false}
 use lib.IntN.{ℤ}
-use Rattle.checks.proofs.Checks.{if-passed, then-passed}
-use Rattle.checks.specs.Checks.{passed_or}
-use Rattle.checks.specs.declared.Checked.{Checked}
-use Rattle.checks.specs.declared.Checked.TheVariants.{Passed, Stopped}
+use Rattle.checks.proofs.Checks.{if-passed, made-by, refused-by, then-passed}
 use Rattle.checks.specs.declared.Refusal.{Refusal}
 use Rattle.unit.specs.Unit.{net_of, sizes}
 use Rattle.unit.specs.declared.Unit.{Unit}
@@ -21,7 +17,9 @@ use Rattle.cell_checks.specs.Inside.{cell_check, inside}
 use Rattle.axis_order.specs.declared.Placing.{Placing}
 use Rattle.placing.specs.Place.{inside_check, place_answer, position_checks}
 use Rattle.placing.specs.Placing.{cells, placing}
-use Rattle.placing.specs.declared.PlacingAnswer.TheVariants as answers
+use Rattle.checks.specs.Checks.{no_refusal}
+use Rattle.std.specs.Prelude.{Err, Ok}
+use Rattle.checks.specs.declared.Refusal.TheVariants.{Outside}
 
 pub record PointAccepted (u : Unit) (x y z : ℤ) (D : ℕ) : Type 0 where
   pub divisor : DivisorAccepted (net_of u) D
@@ -30,13 +28,13 @@ pub record PointAccepted (u : Unit) (x y z : ℤ) (D : ℕ) : Type 0 where
 
 -- a point that passes 10, 11 and 12: its divisor is within limits, it is not before the origin, and its cell
 -- is inside
-pub point-accepted : (u : Unit) (x y z : ℤ) (D : ℕ) → position_checks u x y z D ≡ Passed
+pub point-accepted : (u : Unit) (x y z : ℤ) (D : ℕ) → position_checks u x y z D ≡ no_refusal
     → PointAccepted u x y z D
 unfolding position_checks inside_check cell_check
 point-accepted u x y z D h =
     let a = then-passed (divisor_checks (net_of u) D) _ h in
     let b = then-passed (sign_check _ _ _) (cell_check (net_of u) (sizes u) (cells u x y z D)) a.1 in
-    let c = if-passed 12 _ _ b.1 in
+    let c = if-passed Outside _ _ b.1 in
     record {
       divisor = divisor-accepted (net_of u) D a.0;
       past-origin = signs-passed _ _ _ b.0;
@@ -45,27 +43,15 @@ point-accepted u x y z D h =
 
 -- ---- what a placing call answered
 
--- a refusal is that of the checks
-pub refused-by : (k : Checked) (q : Placing) {r : Refusal}
-    → passed_or k (answers.Placed q) answers.Refused ≡ answers.Refused r → k ≡ Stopped r
-refused-by Passed q h = let z : ◌≡◌ {A = ℕ} 0 1 = cc in absurd (omega arith)
-refused-by (Stopped s) q h = cc
-
--- a placing is answered where all checks passed
-pub placed_by : (k : Checked) (q : Placing) {t : Placing}
-    → passed_or k (answers.Placed q) answers.Refused ≡ answers.Placed t → (k ≡ Passed) × (t ≡ q)
-placed_by Passed q h = (refl, cc)
-placed_by (Stopped s) q h = let z : ◌≡◌ {A = ℕ} 0 1 = cc in absurd (omega arith)
-
-module _ (u : Unit) (x y z : ℤ) (D : ℕ) (e : unit_checks u ≡ Passed) where
+module _ (u : Unit) (x y z : ℤ) (D : ℕ) (e : unit_checks u ≡ no_refusal) where
   -- for a unit that passes, a refusal is that of the point's checks
-  pub place-refused : {r : Refusal} → place_answer u x y z D ≡ answers.Refused r
-      → position_checks u x y z D ≡ Stopped r
+  pub place-refused : {r : Refusal} → place_answer u x y z D ≡ Err r
+      → position_checks u x y z D ≡ Err r
   unfolding place_answer
   place-refused h = refused-by (position_checks u x y z D) (placing u x y z D) (rw e at h)
 
   -- and a placing is the point's, which has passed its checks
-  pub place-placed : {q : Placing} → place_answer u x y z D ≡ answers.Placed q
-      → (position_checks u x y z D ≡ Passed) × (q ≡ placing u x y z D)
+  pub place-placed : {q : Placing} → place_answer u x y z D ≡ Ok q
+      → (position_checks u x y z D ≡ no_refusal) × (q ≡ placing u x y z D)
   unfolding place_answer
-  place-placed h = placed_by (position_checks u x y z D) (placing u x y z D) (rw e at h)
+  place-placed h = made-by (position_checks u x y z D) (placing u x y z D) (rw e at h)

@@ -12,55 +12,45 @@ use unit::Unit;
 fn tie_in_order(weight: u32, a: u8, b: u8) -> bool
     ensures { result ≡ tie_in_order weight a b }
 {
-    if weight != 0 {
-        return true;
-    }
-    a < b
+    weight != 0 || a < b
 }
 
 // Whether the lower axis stands first wherever two remainders are equal.
+#[tactic(auto, unfolding(crate::specs::Fields::ties_in_order))]
 pub fn ties_in_order(q: Placing) -> bool
     ensures { result ≡ ties_in_order q }
 {
-    if !tie_in_order(q.l1, q.p, q.r) {
-        return false;
-    }
-    tie_in_order(q.l2, q.r, q.s)
+    tie_in_order(q.l1, q.p, q.r) && tie_in_order(q.l2, q.r, q.s)
 }
 
 // Whether a remainder over D may stand in cell k of an axis with so many entries.
 fn face_in_last(remainder: u64, divisor: u64, size: u16, k: u32) -> bool
     ensures { result ≡ face_in_last remainder divisor size k }
 {
-    if remainder != divisor {
-        return true;
-    }
-    k == coordinates::last_cell(size)
+    remainder != divisor || k == coordinates::last_cell(size)
 }
 
 // The remainder on an axis.
+#[tactic(auto, unfolding(crate::specs::Fields::remainder_on))]
 fn remainder_on(q: Placing, axis: u8) -> u64
     ensures { result ≡ remainder_on q axis }
 {
     if axis == q.p {
-        return q.l1 as u64 + q.l2 as u64 + q.l3 as u64;
+        q.l1 as u64 + q.l2 as u64 + q.l3 as u64
+    } else if axis == q.r {
+        q.l2 as u64 + q.l3 as u64
+    } else {
+        q.l3 as u64
     }
-    if axis == q.r {
-        return q.l2 as u64 + q.l3 as u64;
-    }
-    q.l3 as u64
 }
 
 // Whether on every axis the remainder may stand in the cell.
+#[tactic(auto, unfolding(crate::specs::Fields::faces_in_last))]
 pub fn faces_in_last(unit: Unit, q: Placing) -> bool
     ensures { result ≡ faces_in_last unit q }
 {
     let d = q.divisor();
-    if !face_in_last(remainder_on(q, 1), d, unit.n1, q.k1) {
-        return false;
-    }
-    if !face_in_last(remainder_on(q, 2), d, unit.n2, q.k2) {
-        return false;
-    }
-    face_in_last(remainder_on(q, 3), d, unit.n3, q.k3)
+    face_in_last(remainder_on(q, 1), d, unit.n1, q.k1)
+        && face_in_last(remainder_on(q, 2), d, unit.n2, q.k2)
+        && face_in_last(remainder_on(q, 3), d, unit.n3, q.k3)
 }

@@ -19,43 +19,51 @@ fn powers(base: u64, m: usize) -> [u64; 10]
     ensures { (i : ℕ) → i ≤ m → get_or result i 0 ≡ base ^ i }
 {
     let mut p = [1u64; 10];
-    let mut i = 0;
-    while i < m {
+    for i in 0..m {
         p[i + 1] = p[i] * base;
-        i += 1;
     }
     p
 }
 
-// w × C(n, k) × x^(n−k), from the powers of x.
-fn with_factor(w: u64, n: usize, k: usize, b: &[[u8; 10]; 10], x: &[u64; 10]) -> u64
-    requires { (k ≤ n) × (n ≤ 9) × Binomials b.now × (factor (number_at x.now) n k ≤ limit)
-        × (w * factor (number_at x.now) n k ≤ limit) }
-    ensures { result ≡ w * factor (number_at x.now) n k }
-{
-    w * (b[n][k] as u64 * x[n - k])
+// A placing at degree m, with what the weights of its local places are made of: the binomials, and the powers
+// of L0 to L3.
+#[derive(Clone, Copy)]
+struct Weights<'a> {
+    m: usize,
+    q: Placing,
+    table: &'a [[u8; 10]; 10],
+    x0: &'a [u64; 10],
+    x1: &'a [u64; 10],
+    x2: &'a [u64; 10],
+    x3: &'a [u64; 10],
+    ghost scaled: { Scaled m q },
+    ghost binomials: { Binomials table.now },
+    ghost powers: { Tables m q (number_at x0.now) (number_at x1.now) (number_at x2.now) (number_at x3.now) },
 }
 
-// The weight of a local place, from the powers of L0 to L3.
-fn weight(
-    m: usize,
-    l: LocalPlace,
-    q: Placing,
-    b: &[[u8; 10]; 10],
-    x0: &[u64; 10],
-    x1: &[u64; 10],
-    x2: &[u64; 10],
-    x3: &[u64; 10],
-) -> u64
-    requires { Scaled m q × WithinDegree m l × Binomials b.now
-        × Tables m q (number_at x0.now) (number_at x1.now) (number_at x2.now) (number_at x3.now) }
-    ensures { (result ≡ term_weight m q (m - l.p) (l.p - l.r) (l.r - l.s) l.s) × (result ≤ limit) }
-{
-    let s = l.s;
-    let w = with_factor(1, m, l.p, b, x0);
-    let w = with_factor(w, l.p, l.r, b, x1);
-    let w = with_factor(w, l.r, s, b, x2);
-    w * x3[s]
+impl<'a> Weights<'a> {
+    // w × C(n, k) × x^(n−k), from the powers of x.
+    fn with_factor(self, w: u64, n: usize, k: usize, x: &[u64; 10]) -> u64
+        requires { (k ≤ n) × (n ≤ 9) × (factor (number_at x.now) n k ≤ limit)
+            × (w * factor (number_at x.now) n k ≤ limit) }
+        ensures { result ≡ w * factor (number_at x.now) n k }
+    {
+        w * (self.table[n][k] as u64 * x[n - k])
+    }
+
+    // The weight of a local place.
+    fn weight(self, l: LocalPlace) -> u64
+        requires { WithinDegree self.m l }
+        ensures { (result
+            ≡ term_weight self.entry.m self.entry.q (self.entry.m - l.p) (l.p - l.r) (l.r - l.s) l.s)
+            × (result ≤ limit) }
+    {
+        let s = l.s;
+        let w = self.with_factor(1, self.m, l.p, self.x0);
+        let w = self.with_factor(w, l.p, l.r, self.x1);
+        let w = self.with_factor(w, l.r, s, self.x2);
+        w * self.x3[s]
+    }
 }
 
 // The blended numbers times a weight.
@@ -91,23 +99,30 @@ pub(crate) fn bernstein_sums(
     requires { Scaled m q × BlendedSizes m (signed_at shifts.now) (number_at spreads.now) }
     ensures { result ≡ parts_to m q (signed_at shifts.now) (number_at spreads.now) }
 {
-    let b = binomials::table();
+    let table = binomials::table();
     let x0 = powers(q.l0 as u64, m);
     let x1 = powers(q.l1 as u64, m);
     let x2 = powers(q.l2 as u64, m);
     let x3 = powers(q.l3 as u64, m);
+    let weights = Weights {
+        m,
+        q,
+        table: &table,
+        x0: &x0,
+        x1: &x1,
+        x2: &x2,
+        x3: &x3,
+    };
     let count = local::local_places(m);
     let mut sum = Part {
         numerator: 0,
         uncertainty: 0,
     };
     let mut l = LocalPlace::first();
-    let mut t = 0;
-    while t < count {
-        let w = weight(m, l, q, &b, &x0, &x1, &x2, &x3);
+    for t in 0..count {
+        let w = weights.weight(l);
         sum = joined(sum, term(shifts[t], spreads[t], w));
         l = l.next();
-        t += 1;
     }
     sum
 }
@@ -119,10 +134,8 @@ pub(crate) fn denominator(m: usize, q: Placing) -> u64
 {
     let d = q.divisor();
     let mut product: u64 = 1;
-    let mut i: u64 = 0;
-    while i < m as u64 {
-        i += 1;
-        product = product * (i * d);
+    for i in 1..=m as u64 {
+        product *= i * d;
     }
     product
 }

@@ -10,10 +10,11 @@ ghost use Rattle.parts.specs.Parts.{BlendedSizes, fraction_of};
 ghost use Rattle.parts.specs.Weights.{Scaled};
 ghost use Rattle.answers.specs.Point.{point_answer, valuing_answer};
 
-use answers::{Fraction, PointAnswer};
+use answers::Fraction;
 use axis_order::Placing;
-use checks::Checked;
-use placing::PlacingAnswer;
+use blending::lent::Lent;
+use checks::Refusal;
+use placing::Point;
 use shape::Counts;
 use unit::Unit;
 
@@ -37,60 +38,31 @@ fn summed(unit: Unit, q: Placing, shifts: &[i64; 220], spreads: &[u64; 220]) -> 
 
 // The exact fraction at a placing, over the sum of its weights, or the first refusal that applies of 21, 22,
 // 17, 4, 9, 13, 23, with the lowest index of a gap for 13.
-pub fn value(
-    unit: Unit,
-    net: &[u32],
-    corrections: &[i16],
-    uncertainties: &[u16],
-    q: Placing,
-) -> PointAnswer
-    ensures { result ≡ valuing_answer unit net.now corrections.now
-        uncertainties.now q }
+pub fn value(unit: Unit, lent: Lent<'_>, q: Placing) -> Result<Fraction, Refusal>
+    ensures { result ≡ valuing_answer unit lent.entry.net.now lent.entry.corrections.now
+        lent.entry.uncertainties.now q }
 {
     let mut shifts = [0i64; 220];
     let mut spreads = [0u64; 220];
-    let blended = blending::blend(
-        unit,
-        net,
-        corrections,
-        uncertainties,
-        q,
-        &mut shifts,
-        &mut spreads,
-    );
-    if let Checked::Stopped(refusal) = blended {
-        return PointAnswer::Refused(refusal);
-    }
-    PointAnswer::Value(summed(unit, q, &shifts, &spreads))
+    blending::blend(unit, lent, q, &mut shifts, &mut spreads)?;
+    Ok(summed(unit, q, &shifts, &spreads))
 }
 
-// The exact fraction at the point X, Y, Z over a divisor, or the first refusal that applies of 21, 22,
-// 4, 9, 10, 11, 12, 13, 23, with the lowest index of a gap for 13. The point is placed and valued; 4 and 9
-// stand before the refusals of placing, so where it is not placed they are looked at first.
-pub fn answer(
-    unit: Unit,
-    net: &[u32],
-    corrections: &[i16],
-    uncertainties: &[u16],
-    x: i32,
-    y: i32,
-    z: i32,
-    divisor: u32,
-) -> PointAnswer
-    ensures { result ≡ point_answer unit net.now corrections.now
-        uncertainties.now x y z divisor }
+// The exact fraction at a point, or the first refusal that applies of 21, 22, 4, 9, 10, 11, 12, 13, 23, with
+// the lowest index of a gap for 13. The point is placed and valued; 4 and 9 stand before the refusals of
+// placing, so where it is not placed they are looked at first.
+pub fn answer(unit: Unit, lent: Lent<'_>, at: Point) -> Result<Fraction, Refusal>
+    ensures { result ≡ point_answer unit lent.entry.net.now lent.entry.corrections.now
+        lent.entry.uncertainties.now at.x at.y at.z at.divisor }
 {
-    let placed = placing::place(unit, x, y, z, divisor);
-    match placed {
-        PlacingAnswer::Placed(q) => value(unit, net, corrections, uncertainties, q),
-        PlacingAnswer::Refused(refusal) => {
-            in_turn::unplaced_point(
-                unit,
-                net.len(),
-                corrections.len(),
-                uncertainties.len(),
-                refusal,
-            )
-        }
+    match placing::place(unit, at) {
+        Ok(q) => value(unit, lent, q),
+        Err(refusal) => in_turn::unplaced_point(
+            unit,
+            lent.net.len(),
+            lent.corrections.len(),
+            lent.uncertainties.len(),
+            refusal,
+        ),
     }
 }

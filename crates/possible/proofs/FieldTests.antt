@@ -8,8 +8,6 @@ use borrow.Author.Tests.{eq-eqb, eqb-false, eqb-true, leb-true, lt-ltb, ltb-true
 use lib.Dec.{eqb, leb}
 use Rattle.spline.specs.Multiplicities.{Multiplicities}
 use Rattle.checks.proofs.Checks.{if-passed, passes-passed, then-passed}
-use Rattle.checks.specs.Checks.{passes}
-use Rattle.checks.specs.declared.Checked.TheVariants.{Passed}
 use Rattle.unit.specs.Unit.{net_of, sizes}
 use Rattle.unit.specs.declared.Unit.{Unit}
 use Rattle.limits.proofs.Accepted.{Equipped, Lent, equipped, lent_by}
@@ -23,6 +21,8 @@ use Rattle.axis_order.specs.declared.Placing.{Placing}
 use Rattle.three_axes.specs.Axes.{are_axes, is_axis}
 use Rattle.placing_fields.specs.Fields.{face_in_last, faces_in_last, remainder_on, tie_in_order, ties_in_order}
 use Rattle.possible.specs.Possible.{placed_checks, placing_checks, possible}
+use Rattle.checks.specs.Checks.{no_refusal, passes}
+use Rattle.checks.specs.declared.Refusal.TheVariants.{ImpossiblePlacing}
 
 -- ---- tests
 
@@ -172,8 +172,8 @@ module _ (u : Unit) (q : Placing) where
       go false false = omega arith
 
   -- where L0 is not 0, no remainder is that of a far face
-  pub no-face : (q.l0 ≡ 0 → ⊥) → faces_in_last u q ≡ true
-  no-face h =
+  pub no_face : (q.l0 ≡ 0 → ⊥) → faces_in_last u q ≡ true
+  no_face h =
       let inner : (a : ℕ) → remainder_on q a ≡ D → ⊥
       = λ a e. h (let small = remainder-small a in omega arith) in
       faces-tested.1 (λ e. absurd (inner 1 e), λ e. absurd (inner 2 e), λ e. absurd (inner 3 e))
@@ -216,18 +216,18 @@ module _ (u : Unit) (q : Placing) where
     pub possible : Possible u q
 
   -- a unit and a placing that pass 21, 22 and 17
-  pub placing-accepted : placing_checks u q ≡ Passed → PlacingAccepted
+  pub placing-accepted : placing_checks u q ≡ no_refusal → PlacingAccepted
   unfolding placing_checks
   placing-accepted h =
       let a = then-passed (unit_checks u) _ h in
       record {
         unit = equipped u a.0;
-        possible = is-possible (not-false _ (if-passed 17 (not (possible u q)) _ a.1).0);
+        possible = is-possible (not-false _ (if-passed ImpossiblePlacing (not (possible u q)) _ a.1).0);
       }
 
   -- and past 4 and 9 with long enough slices
   pub placed-accepted : (net corrections uncertainties : ℕ)
-      → placed_checks u q net corrections uncertainties ≡ Passed
+      → placed_checks u q net corrections uncertainties ≡ no_refusal
       → PlacingAccepted × Lent u net corrections uncertainties
   unfolding placed_checks
   placed-accepted net corrections uncertainties h =

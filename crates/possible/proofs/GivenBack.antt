@@ -12,7 +12,6 @@ use lib.Dec.{eqb, leb}
 use lib.IntN.{◌*ℤ◌, ◌+ℤ◌, pos, ℤ}
 use Rattle.spline.specs.Multiplicities.{extent}
 use Rattle.spline.specs.Place.{Axis, a1, a2, a3, on_axes}
-use Rattle.checks.specs.declared.Checked.TheVariants.{Passed}
 use Rattle.allowed.proofs.Limits.{BlockLimits}
 use Rattle.unit.proofs.Limits.{block-limits}
 use Rattle.unit.specs.Unit.{net_of, sizes}
@@ -31,9 +30,10 @@ use Rattle.axis_order.specs.declared.Placing.{Placing}
 use Rattle.placing.proofs.Cells.{cell-inside, inside-axes}
 use Rattle.placing.specs.Place.{inside_check, place_answer, position_checks}
 use Rattle.placing.specs.Placing.{placing}
-use Rattle.placing.specs.declared.PlacingAnswer.TheVariants.{Placed}
 use Rattle.placing_fields.specs.Fields.{remainder_on}
 use Rattle.possible.proofs.FieldTests.{Possible}
+use Rattle.std.specs.Prelude.{Ok}
+use Rattle.checks.specs.Checks.{no_refusal}
 
 -- the coordinate of a cell and a remainder lies there
 located-back : (k r D n : ℕ) → 1 ≤ D → r ≤ D → k < n → (r ≡ D → k ≡ n - 1)
@@ -135,7 +135,7 @@ distance_on q b = weight_sum q * placing_cell q b + remainder_on q (axis_number 
 abbrev pub coordinate : Placing → Axis → ℤ → ℤ
 coordinate q b o = pos (distance_on q b) +ℤ o *ℤ pos (weight_sum q)
 
-module _ (u : Unit) (q : Placing) (e : unit_checks u ≡ Passed) (h : Possible u q) where
+module _ (u : Unit) (q : Placing) (e : unit_checks u ≡ no_refusal) (h : Possible u q) where
   abbrev D : ℕ
   D = weight_sum q
 
@@ -193,7 +193,7 @@ module _ (u : Unit) (q : Placing) (e : unit_checks u ≡ Passed) (h : Possible u
       rw (read1, read2, read3, back.0.0, back.1.0, back.2.0)
       (ranked-back (placing_cell q) q.l0 q.l1 q.l2 q.l3 h.axes h.first-tie h.second-tie)
 
-  checks-passed : position_checks u x y z D ≡ Passed
+  checks-passed : position_checks u x y z D ≡ no_refusal
   unfolding position_checks inside_check sign_check cell_check
   checks-passed =
       rw (
@@ -209,7 +209,7 @@ module _ (u : Unit) (q : Placing) (e : unit_checks u ≡ Passed) (h : Possible u
       refl
 
   -- the placing call gives it for this point
-  pub given_back : place_answer u x y z D ≡ Placed q
+  pub given_back : place_answer u x y z D ≡ Ok q
   unfolding place_answer
   given_back = rw (e, checks-passed, placing-back) refl
 

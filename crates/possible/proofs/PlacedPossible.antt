@@ -7,9 +7,7 @@ use native.Mathlib.Nat.{mod-lt}
 use native.Mathlib.Omega.{arith}
 use lib.IntN.{ℤ}
 use Rattle.spline.specs.Place.{Axis, a1, a2, a3, on_axes}
-use Rattle.checks.proofs.Checks.{then-passed}
-use Rattle.checks.specs.Checks.{and_then}
-use Rattle.checks.specs.declared.Checked.TheVariants.{Passed}
+use Rattle.checks.proofs.Checks.{made-by, then-passed}
 use Rattle.unit.specs.declared.Unit.{Unit}
 use Rattle.limits.specs.Limits.{unit_checks}
 use Rattle.coordinates.proofs.Faces.{by-face}
@@ -18,14 +16,15 @@ use Rattle.axis_order.proofs.Ranks.{Before, ordered, rank-cases}
 use Rattle.axis_order.specs.AxisOrder.{axis_number, rank_axes}
 use Rattle.axis_order.specs.Weights.{placing_by, weight_sum}
 use Rattle.axis_order.specs.declared.Placing.{Placing}
-use Rattle.placing.proofs.Placed.{PointAccepted, placed_by, point-accepted}
+use Rattle.placing.proofs.Placed.{PointAccepted, point-accepted}
 use Rattle.placing.proofs.Weights.{placing-axes, weights-add-up}
 use Rattle.placing.specs.Place.{place_answer, position_checks}
 use Rattle.placing.specs.Placing.{block_cells, placing}
 use Rattle.placing_fields.specs.Fields.{remainder_on}
 use Rattle.possible.proofs.FieldTests.{Possible, possible-is}
-use Rattle.placing.specs.declared.PlacingAnswer.TheVariants as answers
 use Rattle.possible.specs.Possible.{placing_checks, possible}
+use Rattle.checks.specs.Checks.{and_then, no_refusal}
+use Rattle.std.specs.Prelude.{Ok}
 
 -- the remainders, from the weights of a placing
 remainders-are : (k u : Axis → ℕ) (D : ℕ)
@@ -83,17 +82,17 @@ module _ (u : Unit) (x y z : ℤ) (D : ℕ) where
   -- ---- a point that is placed
 
   pub record Placed (q : Placing) : Type 0 where
-    pub unit-passed : unit_checks u ≡ Passed
-    pub position-passed : position_checks u x y z D ≡ Passed
-    pub placing-passed : placing_checks u q ≡ Passed
+    pub unit-passed : unit_checks u ≡ no_refusal
+    pub position-passed : position_checks u x y z D ≡ no_refusal
+    pub placing-passed : placing_checks u q ≡ no_refusal
     pub is : q ≡ placing u x y z D
     pub divisor-is : weight_sum q ≡ D
 
   -- it has passed all checks before 4 of a call that is handed the placing
-  pub placed : {q : Placing} → place_answer u x y z D ≡ answers.Placed q → Placed q
+  pub placed : {q : Placing} → place_answer u x y z D ≡ Ok q → Placed q
   unfolding place_answer placing_checks
   placed {q} h =
-      let p = placed_by (and_then (unit_checks u) (position_checks u x y z D)) (placing u x y z D) h in
+      let p = made-by (and_then (unit_checks u) (position_checks u x y z D)) (placing u x y z D) h in
       let t = then-passed (unit_checks u) (position_checks u x y z D) p.0 in
       let a = point-accepted u x y z D t.1 in
       let given : possible u q ≡ true = rw p.1 (possible-is u _ (placed-possible a)) in

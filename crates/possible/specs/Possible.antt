@@ -1,9 +1,6 @@
 -- Which placings the placing call gives for a unit, and the checks of a call that is handed a placing:
 -- Section 9.7.
 use Rattle.std.specs.Prelude.{Bool, ◌&&◌, not, ℕ}
-use Rattle.checks.specs.Checks.{and_then, passes, refuse_if}
-use Rattle.checks.specs.declared.Checked.{Checked}
-use Rattle.checks.specs.declared.Checked.TheVariants.{Passed}
 use Rattle.unit.specs.Unit.{net_of, sizes}
 use Rattle.unit.specs.declared.Unit.{Unit}
 use Rattle.limits.specs.Limits.{room_checks, unit_checks}
@@ -13,6 +10,8 @@ use Rattle.axis_order.specs.Weights.{placing_cell, weight_sum}
 use Rattle.axis_order.specs.declared.Placing.{Placing}
 use Rattle.three_axes.specs.Axes.{are_axes}
 use Rattle.placing_fields.specs.Fields.{faces_in_last, ties_in_order}
+use Rattle.checks.specs.Checks.{Checked, and_then, no_refusal, passes, refuse_if}
+use Rattle.checks.specs.declared.Refusal.TheVariants.{ImpossiblePlacing}
 
 -- Section 9.7: whether the placing call gives q for the unit and some point; its divisor is one that neither
 -- 10 nor 11 refuses
@@ -28,7 +27,7 @@ possible u q =
 
 -- Section 5.3: 21, 22, 17 for a placing that is not possible
 unfoldable pub placing_checks : Unit → Placing → Checked
-placing_checks u q = and_then (unit_checks u) (refuse_if 17 (not (possible u q)) Passed)
+placing_checks u q = and_then (unit_checks u) (refuse_if ImpossiblePlacing (not (possible u q)) no_refusal)
 
 -- Section 5.3: 21, 22, 17, 4, 9
 unfoldable pub placed_checks : Unit → Placing → ℕ → ℕ → ℕ → Checked

@@ -6,66 +6,55 @@ ghost use Rattle.std.specs.Prelude.{◌≡◌};
 ghost use Rattle.possible.specs.Possible.{live_placing_checks, placed_checks, placing_checks, possible};
 
 use axis_order::Placing;
-use checks::Checked;
+use checks::Refusal;
 use unit::Unit;
 
 // Whether the placing call gives the placing for the unit and some point. Where L0 is not 0 no remainder is
 // D, and no face is looked at.
+#[tactic(auto, using(crate::proofs::FieldTests::no_face), unfolding(crate::specs::Possible::possible))]
 fn is_possible(unit: Unit, q: Placing) -> bool
     ensures { result ≡ possible unit q }
 {
-    if !three_axes::are_axes(q.p, q.r, q.s) {
-        return false;
-    }
-    if let Checked::Stopped(refusal) = divisor_checks::check_divisor(unit, q.divisor()) {
-        return false;
-    }
-    if !cell_checks::is_inside(unit, q.k1, q.k2, q.k3) {
-        return false;
-    }
-    if !placing_fields::ties_in_order(q) {
-        return false;
-    }
-    if q.l0 != 0 {
-        return true;
-    }
-    placing_fields::faces_in_last(unit, q)
+    three_axes::are_axes(q.p, q.r, q.s)
+        && divisor_checks::check_divisor(unit, q.divisor()).is_ok()
+        && cell_checks::is_inside(unit, q.k1, q.k2, q.k3)
+        && placing_fields::ties_in_order(q)
+        && (q.l0 != 0 || placing_fields::faces_in_last(unit, q))
 }
 
 // Checks 21, 22 and 17.
-fn check_placing(unit: Unit, q: Placing) -> Checked
+#[tactic(auto, unfolding(crate::specs::Possible::placing_checks))]
+fn check_placing(unit: Unit, q: Placing) -> Result<(), Refusal>
     ensures { result ≡ placing_checks unit q }
 {
-    if let Checked::Stopped(refusal) = limits::check_unit(unit) {
-        return Checked::Stopped(refusal);
-    }
+    limits::check_unit(unit)?;
     if !is_possible(unit, q) {
-        return Checked::stop(17, 0);
+        return Err(Refusal::ImpossiblePlacing);
     }
-    Checked::Passed
+    Ok(())
 }
 
 // Checks 21, 22, 17, 4 and 9, by the lengths of the lent slices.
+#[tactic(auto, unfolding(crate::specs::Possible::placed_checks))]
 pub fn check_placed(
     unit: Unit,
     q: Placing,
     net: usize,
     corrections: usize,
     uncertainties: usize,
-) -> Checked
+) -> Result<(), Refusal>
     ensures { result ≡ placed_checks unit q net corrections uncertainties }
 {
     let placing = check_placing(unit, q);
     let room = limits::check_room(unit, net, corrections, uncertainties);
-    placing.and_then(room)
+    placing.and(room)
 }
 
 // Checks 21, 22, 17 and 15.
-pub fn check_live_placing(unit: Unit, q: Placing) -> Checked
+#[tactic(auto, unfolding(crate::specs::Possible::live_placing_checks, divisor_checks::specs::Divisor::live_divisor_checks))]
+pub fn check_live_placing(unit: Unit, q: Placing) -> Result<(), Refusal>
     ensures { result ≡ live_placing_checks unit q }
 {
-    if let Checked::Stopped(refusal) = check_placing(unit, q) {
-        return Checked::Stopped(refusal);
-    }
+    check_placing(unit, q)?;
     divisor_checks::check_live_divisor(unit, q.divisor())
 }

@@ -58,10 +58,7 @@ pub fn degree_of(c: Counts) -> usize
     ensures { (result ≡ degree (counted c)) × (result ≤ 1017) }
 {
     let sum = c.v1 as usize + c.v2 as usize + c.v3 as usize + c.v4 as usize;
-    if sum < 3 {
-        return 0;
-    }
-    sum - 3
+    sum.saturating_sub(3)
 }
 
 // W on the axis of the multiplicity v.
@@ -96,55 +93,39 @@ pub fn places_of(c: Counts) -> usize
 // The most places of a box on an axis.
 const SIDE: usize = 91;
 
+#[tactic(auto, unfolding(crate::specs::Shape::side_allowed))]
 fn side_allowed(w: usize) -> bool
     ensures { result ≡ side_allowed w }
 {
-    if w == 0 {
-        return false;
-    }
-    w <= SIDE
+    (1..=SIDE).contains(&w)
 }
 
 // Whether a degree and widths are within the limits.
+#[tactic(auto, unfolding(crate::specs::Shape::boxed))]
 fn is_boxed(s: Shape) -> bool
     ensures { result ≡ boxed s }
 {
-    if (Unit::DEGREE as usize) < s.m {
-        return false;
-    }
-    if !side_allowed(s.w1) {
-        return false;
-    }
-    if !side_allowed(s.w2) {
-        return false;
-    }
-    side_allowed(s.w3)
+    s.m <= Unit::DEGREE as usize && side_allowed(s.w1) && side_allowed(s.w2) && side_allowed(s.w3)
 }
 
 // Whether a slice of n elements holds the box of such a shape.
+#[tactic(auto, unfolding(crate::specs::Shape::held_in))]
 pub fn is_held(s: Shape, n: usize) -> bool
     ensures { result ≡ held_in s n }
 {
-    if !is_boxed(s) {
-        return false;
-    }
-    s.w1 * s.w2 * s.w3 <= n
+    is_boxed(s) && s.w1 * s.w2 * s.w3 <= n
 }
 
 // Of a byte that is no direction, the vector of direction 4.
 pub fn vector_of(d: u8) -> Vector
     ensures { result ≡ vector_of (direction d) }
 {
-    if d == 1 {
-        return Vector { x: 1, y: 0, z: 0 };
+    match d {
+        1 => Vector { x: 1, y: 0, z: 0 },
+        2 => Vector { x: 0, y: 1, z: 0 },
+        3 => Vector { x: 0, y: 0, z: 1 },
+        _ => Vector { x: 1, y: 1, z: 1 },
     }
-    if d == 2 {
-        return Vector { x: 0, y: 1, z: 0 };
-    }
-    if d == 3 {
-        return Vector { x: 0, y: 0, z: 1 };
-    }
-    Vector { x: 1, y: 1, z: 1 }
 }
 
 // n1×n2×n3.

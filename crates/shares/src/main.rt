@@ -5,18 +5,11 @@ use input::Typed;
 use std::io;
 use std::io::{Input, Read, Write};
 
-// The next byte of standard input.
-enum Next {
-    Byte(u8),
-    End,
-}
-
-fn read_byte(reader: &mut impl Read) -> io::Result<Next> {
+// The next byte of the input, if it has not ended.
+fn read_byte(reader: &mut impl Read) -> io::Result<Option<u8>> {
     let mut byte = [0u8; 1];
-    if reader.read(&mut byte)? == 0 {
-        return Ok(Next::End);
-    }
-    Ok(Next::Byte(byte[0]))
+    let n = reader.read(&mut byte)?;
+    Ok(byte[..n].first().copied())
 }
 
 fn list(out: &mut impl Write, typed: Typed) -> io::Result<()> {
@@ -29,11 +22,10 @@ fn list(out: &mut impl Write, typed: Typed) -> io::Result<()> {
 fn main(rt: HostRuntime) -> io::Result<()> {
     let mut typed = Typed::nothing();
     let mut reader = rt.reader();
-    while typed.wants_more() {
-        match read_byte(&mut reader)? {
-            Next::Byte(b) => typed = typed.with_byte(b),
-            Next::End => break,
-        }
+    while typed.wants_more()
+        && let Some(byte) = read_byte(&mut reader)?
+    {
+        typed = typed.with_byte(byte);
     }
     list(&mut io::writer(&rt), typed)
 }

@@ -22,16 +22,10 @@ fn sum_box(net: &mut [u32], work: &[i32], s: Shape, d: u8)
     ensures { net.new ≡ filled (line_number (direction d) (widths s) work.now)
         (places (widths s)) net.old }
 {
-    let w2 = s.w2;
-    let w3 = s.w3;
-    let mut z = 0;
-    while z < w3 {
-        let mut y = 0;
-        while y < w2 {
+    for z in 0..s.w3 {
+        for y in 0..s.w2 {
             row::sum_row(net, work, s, d, y, z);
-            y += 1;
         }
-        z += 1;
     }
 }
 

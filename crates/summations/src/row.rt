@@ -28,10 +28,8 @@ fn sum_edge(net: &mut [u32], work: &[i32], a: usize, e: usize)
     ensures { (r : RowSums none a e work.now net.old)
         → net.new ≡ filled r.number e net.old }
 {
-    let mut i = a;
-    while i < e {
+    for i in a..e {
         put(net, work, i, 0);
-        i += 1;
     }
 }
 
@@ -42,10 +40,8 @@ fn sum_along(net: &mut [u32], work: &[i32], a: usize, e: usize)
         → net.new ≡ filled r.number e net.old }
 {
     let mut t = net[a - 1];
-    let mut i = a;
-    while i < e {
+    for i in a..e {
         t = put(net, work, i, t);
-        i += 1;
     }
 }
 
@@ -56,11 +52,9 @@ fn sum_back(net: &mut [u32], work: &[i32], a: usize, e: usize, back: usize)
     ensures { (r : RowSums (places_back back) a e work.now net.old)
         → net.new ≡ filled r.number e net.old }
 {
-    let mut i = a;
-    while i < e {
+    for i in a..e {
         let n = net[i - back];
         put(net, work, i, n);
-        i += 1;
     }
 }
 

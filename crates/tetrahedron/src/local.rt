@@ -11,6 +11,7 @@ pub struct LocalPlace {
 }
 
 impl LocalPlace {
+    #[tactic(auto, unfolding(crate::specs::LocalPlaces::local_at))]
     pub fn first() -> Self
         ensures { result ≡ local_at 0 }
     {
@@ -18,31 +19,30 @@ impl LocalPlace {
     }
 
     // The next one; after the last of degree 9 the first.
+    #[tactic(auto, unfolding(crate::specs::LocalPlaces::local_after, crate::specs::LocalPlaces::local_at))]
     pub fn next(self) -> Self
         ensures { result ≡ local_after self }
     {
         if self.s < self.r {
-            return LocalPlace {
-                p: self.p,
-                r: self.r,
+            LocalPlace {
                 s: self.s + 1,
-            };
-        }
-        if self.r < self.p {
-            return LocalPlace {
-                p: self.p,
+                ..self
+            }
+        } else if self.r < self.p {
+            LocalPlace {
                 r: self.r + 1,
                 s: 0,
-            };
-        }
-        if self.p < 9 {
-            return LocalPlace {
+                ..self
+            }
+        } else if self.p < 9 {
+            LocalPlace {
                 p: self.p + 1,
                 r: 0,
                 s: 0,
-            };
+            }
+        } else {
+            LocalPlace::first()
         }
-        LocalPlace { p: 0, r: 0, s: 0 }
     }
 }
 

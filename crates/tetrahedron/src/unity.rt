@@ -13,7 +13,7 @@ fn factorial_of(n: usize) -> u64
     requires { n ≤ 9 }
     ensures { result ≡ factorial n }
 {
-    FACTORIAL[n] as u64
+    u64::from(FACTORIAL[n])
 }
 
 // Whether the sums of shares at the local places of degree m are all m!; past degree 9 there are none.
@@ -25,12 +25,5 @@ pub fn adds_up(shares: &[u64; 220], m: usize) -> bool
     }
     let count = local::local_places(m);
     let full = factorial_of(m);
-    let mut t = 0;
-    while t < count {
-        if shares[t] != full {
-            return false;
-        }
-        t += 1;
-    }
-    true
+    shares[..count].iter().all(|&share| share == full)
 }

@@ -20,10 +20,8 @@ pub fn put_word(text: &mut [u8], at: usize, word: &[u8]) -> usize
     ensures { Put word.now text.old text.new at result }
 {
     let mut next = at;
-    let mut j = 0;
-    while j < word.len() {
-        next = put_byte(text, next, word[j]);
-        j += 1;
+    for &byte in word {
+        next = put_byte(text, next, byte);
     }
     next
 }

@@ -7,30 +7,13 @@ ghost use Rattle.three_axes.specs.Axes.{are_axes, is_axis};
 fn is_axis(a: u8) -> bool
     ensures { result ≡ is_axis a }
 {
-    if a < 1 {
-        return false;
-    }
-    a <= 3
+    matches!(a, 1..=3)
 }
 
 // Whether p, r, s are the three axes in some order.
+#[tactic(auto, unfolding(crate::specs::Axes::are_axes))]
 pub fn are_axes(p: u8, r: u8, s: u8) -> bool
     ensures { result ≡ are_axes p r s }
 {
-    if !is_axis(p) {
-        return false;
-    }
-    if !is_axis(r) {
-        return false;
-    }
-    if !is_axis(s) {
-        return false;
-    }
-    if p == r {
-        return false;
-    }
-    if p == s {
-        return false;
-    }
-    r != s
+    is_axis(p) && is_axis(r) && is_axis(s) && p != r && p != s && r != s
 }

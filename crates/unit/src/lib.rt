@@ -1,13 +1,11 @@
-// The unit record: which net and which block a correction unit holds, and the answers that carry a unit. Any
-// values may stand in it. docs/SPECIFICATION.md, Section 4.
+// The unit record: which net and which block a correction unit holds. Any values may stand in it.
+// docs/SPECIFICATION.md, Section 4.
 #![tactic(auto)]
 
 ghost use Rattle.std.specs.Prelude.{◌≡◌};
 ghost use Rattle.spline.specs.Multiplicities.{multiplicities};
 ghost use Rattle.unit.specs.Gaps.{is_gap};
 ghost use Rattle.unit.specs.Unit.{empty_unit, holds_block, holds_net, with_block, with_net};
-
-use checks::Refusal;
 
 #[derive(Clone, Copy)]
 pub struct Unit {
@@ -23,13 +21,6 @@ pub struct Unit {
     pub o1: i16,
     pub o2: i16,
     pub o3: i16,
-}
-
-// What a call that changes the unit answers.
-#[derive(Clone, Copy)]
-pub enum UnitAnswer {
-    Changed(Unit),
-    Refused(Refusal),
 }
 
 impl Unit {

@@ -1,5 +1,5 @@
 // Where an entry stands in a window, and the next one in the order of the block's index.
-ghost use Rattle.std.specs.Prelude.{◌≡◌, ◌-◌, ◌<◌};
+ghost use Rattle.std.specs.Prelude.{◌≡◌, ◌<◌};
 ghost use Rattle.window.specs.Positions.{position, position_after};
 
 // Counted from the window's lowest entry.
@@ -8,16 +8,6 @@ pub struct Position {
     pub x: usize,
     pub y: usize,
     pub z: usize,
-}
-
-// The last place along an extent; 0 where there is none.
-fn last_of(e: usize) -> usize
-    ensures { result ≡ e - 1 }
-{
-    if e == 0 {
-        return 0;
-    }
-    e - 1
 }
 
 impl Position {
@@ -29,30 +19,29 @@ impl Position {
 
     // The next one in a window of extents e1, e2; past the 16 layers of the largest window the first, and
     // nothing is promised.
+    #[tactic(auto, unfolding(crate::specs::Positions::position_after))]
     pub fn next(self, e1: usize, e2: usize) -> Self
         ensures { self.z < 16 → result ≡ position_after self e1 e2 }
     {
-        if self.x < last_of(e1) {
-            return Position {
+        if self.x < e1.saturating_sub(1) {
+            Position {
                 x: self.x + 1,
-                y: self.y,
-                z: self.z,
-            };
-        }
-        if self.y < last_of(e2) {
-            return Position {
+                ..self
+            }
+        } else if self.y < e2.saturating_sub(1) {
+            Position {
                 x: 0,
                 y: self.y + 1,
-                z: self.z,
-            };
-        }
-        if self.z < 16 {
-            return Position {
+                ..self
+            }
+        } else if self.z < 16 {
+            Position {
                 x: 0,
                 y: 0,
                 z: self.z + 1,
-            };
+            }
+        } else {
+            Position::first()
         }
-        Position::first()
     }
 }

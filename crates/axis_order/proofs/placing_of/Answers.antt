@@ -19,4 +19,4 @@ overflow_sub-result-2 c = omega (arith, falls (goal.at.overflow_sub-result-2 c).
 
 pub returns : goal.returns
 returns c =
-    rw (c.rest.ensures, c.rank-t.ensures) refl
+    rw (c.saturating_sub.ensures, c.rank-t.ensures) refl

@@ -8,7 +8,8 @@ use Rattle.axis_order.specs.Inner.Ranking.{Axes}
 use Rattle.axis_order.specs.Weights.{placing_cell}
 use Rattle.axis_order.specs.declared.Placing.{Placing}
 
-pub record Fit (u : Unit) (net_length corrections_length uncertainties_length : ℕ) (q : Placing) : Type 0 where
+pub record Fit (u : Unit) (net_length corrections_length uncertainties_length : ℕ) (q : Placing)
+    : Type 0 where
   pub net_held : holds_net u ≡ true
   pub block_held : holds_block u ≡ true
   pub net_long : places (width (net_of u)) ≤ net_length

@@ -9,9 +9,7 @@ use lib.ListN.{get_or-replicate}
 use Rattle.sums.specs.Fill.{number_at, signed_at}
 use Rattle.sums.specs.Search.{Found, nowhere}
 use Rattle.spline.specs.Multiplicities.{Multiplicities}
-use Rattle.checks.proofs.Checks.{stopped-passed, at-passed}
-use Rattle.checks.specs.Checks.{refuse_at}
-use Rattle.checks.specs.declared.Checked.TheVariants.{Passed}
+use Rattle.checks.proofs.Checks.{at-passed, passed_on, stopped-passed}
 use Rattle.unit.specs.Unit.{net_of, sizes}
 use Rattle.axis_order.specs.Weights.{placing_cell}
 use Rattle.tetrahedron.proofs.LocalPlaces.{ordered_at}
@@ -32,10 +30,12 @@ use Rattle.blending.specs.Inner.Window.{window_sums}
 use Rattle.frame.specs.Frames.{frame_of}
 use Rattle.frame.specs.declared.Frame.{Frame}
 use Rattle.blending.proofs.blend_at.Goals as goal
-use Rattle.blending.proofs.blend_at.Goals.{After-check-gapped}
+use Rattle.blending.proofs.blend_at.Goals.{After-check}
+use Rattle.checks.specs.Checks.{no_refusal, refuse_at}
+use Rattle.checks.specs.declared.Refusal.TheVariants.{WindowGap}
 
 -- once the window is summed and its gap looked at
-module _ (c : After-check-gapped) where
+module _ (c : After-check) where
   abbrev v : Multiplicities
   v = net_of c.args.unit
 
@@ -46,7 +46,7 @@ module _ (c : After-check-gapped) where
   made = c.framed-f.result
 
   abbrev corrections : ℕ → ℕ → ℕ → ℤ
-  corrections = correction_at (sizes c.args.unit) c.args.corrections.now
+  corrections = correction_at (sizes c.args.unit) c.args.lent.corrections.now
 
   -- the lowest gap of the window
   abbrev gap_of : Found
@@ -54,7 +54,7 @@ module _ (c : After-check-gapped) where
 
   -- the sums that the code has made
   abbrev left : ℕ → Sums
-  left = let l = c.add_window-gap.new in sums_in l.shares l.shifts l.spreads
+  left = let l = c.add_window-found.new in sums_in l.shares l.shifts l.spreads
 
   -- the frame that the code makes is within limits
   limits : (f : Frame) → f ≡ frame → FrameLimits f
@@ -67,63 +67,63 @@ module _ (c : After-check-gapped) where
   inside = inside_of _ _ _ _ _ c.requires.0
 
   gaps-are : (f : Frame) → f ≡ frame
-      → window_gaps (signed_at c.args.corrections.now) f ≡ gap_of
+      → window_gaps (signed_at c.args.lent.corrections.now) f ≡ gap_of
   gaps-are f e =
       let a = c.args in
-      rw e (window-gap a.unit a.q (signed_at a.corrections.now) inside)
+      rw e (window-gap a.unit a.q (signed_at a.lent.corrections.now) inside)
 
   -- the numbers at a local place
   summed : gap_of ≡ nowhere → (t : ℕ) → t < made.count
       → (let a = c.args in
-      left t ≡ defined_sums a.unit a.q a.net.now a.corrections.now a.uncertainties.now t)
+      left t ≡ defined_sums a.unit a.q a.lent.net.now a.lent.corrections.now a.lent.uncertainties.now t)
   unfolding blended_correction_at blended_uncertainty_at
   summed n t h =
       let a = c.args in
       let o = ordered_at t in
       let offset = c.offsets_of-offsets.ensures.0 t h in
       let in_group = lt_of_lt_of_le h (limits _ frame_is).grouped in
-      c.add_window-gap.ensures.t_after (gaps-are _ frame_is ∙ n) t in_group
-      ∙ ap₂ (window_sums (number_at a.net.now) (signed_at a.corrections.now)
-      (number_at a.uncertainties.now))
+      c.add_window-found.ensures.t_after (gaps-are _ frame_is ∙ n) t in_group
+      ∙ ap₂ (window_sums (number_at a.lent.net.now) (signed_at a.lent.corrections.now)
+      (number_at a.lent.uncertainties.now))
       frame_is (offset ∙ ap (λ (f : Frame). offset_of f (local_at t)) frame_is)
-      ∙ sums-are a.unit a.q (number_at a.net.now) inside c.requires.0.axes (local_at t) o.third
-      o.second (signed_at a.corrections.now) (number_at a.uncertainties.now)
+      ∙ sums-are a.unit a.q (number_at a.lent.net.now) inside c.requires.0.axes (local_at t) o.third
+      o.second (signed_at a.lent.corrections.now) (number_at a.lent.uncertainties.now)
 
   -- a gap is refused
-  gap-checked : c.check-gapped.result ≡ refuse_at 13 gap_of Passed
+  gap-checked : c.check.result ≡ refuse_at WindowGap gap_of no_refusal
   gap-checked =
-      let searched = c.add_window-gap.ensures.result_value ∙ gaps-are _ frame_is in
-      c.check-gapped.ensures ∙ ap (λ (g : Found). refuse_at 13 g Passed) searched
+      let searched = c.add_window-found.ensures.result_value ∙ gaps-are _ frame_is in
+      c.check.ensures ∙ ap (λ (g : Found). refuse_at WindowGap g no_refusal) searched
 
   -- where it passes, the search found nothing
-  none : c.check-gapped.result ≡ Passed → gap_of ≡ nowhere
-  none passed = (at-passed 13 _ Passed (sym gap-checked ∙ passed)).0
+  none : c.check.result ≡ no_refusal → gap_of ≡ nowhere
+  none passed = (at-passed WindowGap _ no_refusal (sym gap-checked ∙ passed)).0
 
   -- the shares that the code compares are those of the definition
-  evened : c.check-gapped.result ≡ Passed → (let a = c.args in
-      whole_at made.m (λ t. (left t).shares) ≡ adds_up v (number_at a.net.now) a.q)
+  evened : c.check.result ≡ no_refusal → (let a = c.args in
+      whole_at made.m (λ t. (left t).shares) ≡ adds_up v (number_at a.lent.net.now) a.q)
   evened passed =
       let a = c.args in
-      evened-by a.unit a.q a.net.now a.corrections.now a.uncertainties.now
+      evened-by a.unit a.q a.lent.net.now a.lent.corrections.now a.lent.uncertainties.now
       (limits _ refl).degree _ made frame_is (summed (none passed))
 
   -- with shares that add up, the bounds on the sums are bounds by m!
-  sizes-of : c.check-gapped.result ≡ Passed → (let a = c.args in
-      adds_up v (number_at a.net.now) a.q ≡ true
-      → Sized a.unit a.net.now a.corrections.now a.uncertainties.now a.q)
+  sizes-of : c.check.result ≡ no_refusal → (let a = c.args in
+      adds_up v (number_at a.lent.net.now) a.q ≡ true
+      → Sized a.unit a.lent.net.now a.lent.corrections.now a.lent.uncertainties.now a.q)
   sizes-of passed =
       let a = c.args in
       let free = none passed in
-      sized-by a.unit a.q a.net.now a.corrections.now a.uncertainties.now
+      sized-by a.unit a.q a.lent.net.now a.lent.corrections.now a.lent.uncertainties.now
       (limits _ refl).degree _ made frame_is (summed free)
-      (λ t h. c.add_window-gap.ensures.bounded (gaps-are _ frame_is ∙ free) t
+      (λ t h. c.add_window-found.ensures.bounded (gaps-are _ frame_is ∙ free) t
       (lt_of_lt_of_le h (limits _ frame_is).grouped))
 
 pub offsets_of-offsets-requires : goal.offsets_of-offsets-requires
 offsets_of-offsets-requires c = rw c.framed-f.ensures (limits_of _ _ _ _ _ c.requires.0)
 
-pub add_window-gap-requires : goal.add_window-gap-requires
-add_window-gap-requires c =
+pub add_window-found-requires : goal.add_window-found-requires
+add_window-found-requires c =
     let framed = c.framed-f.ensures in
     let o = c.offsets_of-offsets.ensures in
     let limits : FrameLimits c.framed-f.result = rw framed (limits_of _ _ _ _ _ c.requires.0) in record {
@@ -136,46 +136,48 @@ add_window-gap-requires c =
           rw (get_or-replicate {A = ℕ} 220 t 0 0 h, get_or-replicate 220 t (pos 0) (pos 0) h) refl;
     }
 
-pub returns-in-Stopped : goal.returns-in-Stopped
-returns-in-Stopped c =
-    let s = (goal.at.returns-in-Stopped c).After-check-gapped in
+pub returns-in_err-check : goal.returns-in_err-check
+returns-in_err-check c =
+    let s = (goal.at.returns-in_err-check c).After-check in
     let a = c.args in
-    let stopped = sym (gap-checked s) ∙ c.in-Stopped.is in record {
-      value = sym (window-stopped (v s) (sizes a.unit) (number_at a.net.now) (corrections s) a.q _ refl
+    let stopped = sym (gap-checked s) ∙ c.in_err-check.was in
+    let k = passed_on _ c.from_residual.ensures in record {
+      value = k
+          ∙ sym (window-stopped (v s) (sizes a.unit) (number_at a.lent.net.now) (corrections s) a.q _ refl
           stopped);
+      shifts_after = nothing_written _ a.unit a.shifts.now k;
+      spreads_after = nothing_written _ a.unit a.spreads.now k;
+      sized = λ h. stopped-passed _ (sym k ∙ h);
+    }
+
+pub returns-then-not-adds_up : goal.returns-then-not-adds_up
+returns-then-not-adds_up c =
+    let s = (goal.at.returns-then-not-adds_up c).After-check in
+    let a = c.args in
+    let passed = c.in_ok-check.was in
+    let uneven = sym (evened s passed) ∙ sym c.adds_up.ensures ∙ c.if-not-adds_up.true in
+    record {
+      value = sym (window-uneven (v s) (sizes a.unit) (number_at a.lent.net.now) (corrections s) a.q
+          (none s passed) uneven);
       shifts_after = nothing_written _ a.unit a.shifts.now refl;
       spreads_after = nothing_written _ a.unit a.spreads.now refl;
       sized = λ h. stopped-passed _ h;
     }
 
-pub returns-then-not-adds_up : goal.returns-then-not-adds_up
-returns-then-not-adds_up c =
-    let s = (goal.at.returns-then-not-adds_up c).After-check-gapped in
-    let a = c.args in
-    let passed = c.in_default.is in
-    let uneven = sym (evened s passed) ∙ sym c.adds_up.ensures ∙ c.if-not-adds_up.true in
-    let stopped = c.stop.ensures in record {
-      value = stopped
-          ∙ sym (window-uneven (v s) (sizes a.unit) (number_at a.net.now) (corrections s) a.q
-          (none s passed) uneven);
-      shifts_after = nothing_written _ a.unit a.shifts.now stopped;
-      spreads_after = nothing_written _ a.unit a.spreads.now stopped;
-      sized = λ h. stopped-passed _ (sym stopped ∙ h);
-    }
-
 pub hand_over-requires : goal.hand_over-requires
 hand_over-requires c =
-    let s = (goal.at.hand_over-requires c).After-check-gapped in
+    let s = (goal.at.hand_over-requires c).After-check in
     ((limits s _ (frame_is s)).places, c.requires.1, c.requires.2)
 
 pub returns : goal.returns
 returns c =
-    let s = (goal.at.returns c).After-check-gapped in
+    let s = (goal.at.returns c).After-check in
     let a = c.args in
-    let passed = c.in_default.is in
+    let passed = c.in_ok-check.was in
     let free = none s passed in
     let even = sym (evened s passed) ∙ sym c.adds_up.ensures ∙ c.if-not-adds_up.false in record {
-      value = sym (window-passed (v s) (sizes a.unit) (number_at a.net.now) (corrections s) a.q free even);
+      value = sym (window-passed (v s) (sizes a.unit) (number_at a.lent.net.now) (corrections s) a.q free
+          even);
       shifts_after = c.hand_over.ensures.shifts_after ∙ written-by a.unit a.q (made s) _ _ _ (frame_is s)
           (λ t l. ap (λ (s : Sums). s.corrections) (summed s free t l));
       spreads_after = c.hand_over.ensures.spreads_after ∙ written-by a.unit a.q (made s) _ _ _ (frame_is s)

@@ -25,7 +25,8 @@ add_sums s t =
 -- f 0 + .. + f (n − 1)
 unfoldable pub sums_to : ℕ → (ℕ → Sums) → Sums
 sums_to n f =
-    sums (sum_to n (λ i. (f i).shares)) (sum_z n (λ i. (f i).corrections)) (sum_to n (λ i. (f i).uncertainties))
+    sums (sum_to n (λ i. (f i).shares)) (sum_z n (λ i. (f i).corrections))
+    (sum_to n (λ i. (f i).uncertainties))
 
 -- no larger than those of n entries, whatever a lent slice holds
 pub record Small (n : ℕ) (s : Sums) : Type 0 where

@@ -8,5 +8,5 @@ use Rattle.cells.proofs.lower.Goals as goal
 pub returns-then-p-u : goal.returns-then-p-u
 returns-then-p-u c = sym (above-lowers _ _ (omega (arith, ltb-true)))
 
-pub returns : goal.returns
-returns c = sym (below_stays _ _ (omega (arith, ltb-false)))
+pub returns-else-p-u : goal.returns-else-p-u
+returns-else-p-u c = sym (below_stays _ _ (omega (arith, ltb-false)))

@@ -10,13 +10,13 @@ use Rattle.sums.proofs.Places.{box-le, index_in, next-layer, next_row}
 use Rattle.sums.proofs.Search.{first-hit, first-none, first-zero}
 use Rattle.sums.specs.Search.{first}
 use Rattle.spline.specs.Box.{places}
-use Rattle.checks.specs.Checks.{refuse_at}
-use Rattle.checks.specs.declared.Checked.TheVariants.{Passed}
 use Rattle.shape.specs.Shape.{widths}
 use Rattle.shape.specs.declared.Shape.{Shape}
 use Rattle.comparison.specs.Compare.{differs}
 use Rattle.comparison.proofs.first_differing.Goals as goal
 use Rattle.comparison.proofs.first_differing.Goals.{In-loop-x}
+use Rattle.checks.specs.Checks.{no_refusal, refuse_at}
+use Rattle.checks.specs.declared.Refusal.TheVariants.{Differing}
 
 -- in a turn: the place's index is within the box
 module _ (c : In-loop-x) where
@@ -125,7 +125,7 @@ returns-after-places c =
     let whole = ap (λ (k : ℕ). a.s.w1 * (a.s.w2 * k)) end in
     let e = l.invariant.2 ∙ whole ∙ sym (mul_assoc a.s.w1 a.s.w2 a.s.w3) in
     let none = ap (λ (n : ℕ). first n (differs a.net.now a.defined.now)) (sym e) ∙ l.invariant.3 in
-    l.invariant.0 ∙ sym (ap (λ f. refuse_at 14 f Passed) none)
+    l.invariant.0 ∙ sym (ap (λ f. refuse_at Differing f no_refusal) none)
 
 pub returns-then-net-i : goal.returns-then-net-i
 returns-then-net-i c =
@@ -133,4 +133,4 @@ returns-then-net-i c =
     let l = c.loop-x in
     let e = ap not (ne_eqb (ours t) (theirs t) c.if-net-i.true) in
     let hit = first-hit (test t) (places (widths c.args.s)) l.i l.invariant.3 e (within t).0 in
-    c.stop-seen.ensures ∙ sym (ap (λ f. refuse_at 14 f Passed) hit)
+    sym (ap (λ f. refuse_at Differing f no_refusal) hit)

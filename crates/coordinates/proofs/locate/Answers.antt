@@ -1,9 +1,9 @@
 -- The test of the face is the definition's own, in 64 bits, which hold n×D; over 0 the quotient is 0.
-use mathlib.Core.Path.{◌≡◌, refl, sym}
+use mathlib.Core.Path.{◌≡◌, refl}
 use Prim.Native.Nat.{◌%◌, ◌/◌, ◌≤◌, ℕ}
 use native.Mathlib.Nat.{div-zero, mod-zero, mul-le-mul}
 use native.Mathlib.Omega.{arith}
-use Rattle.coordinates.proofs.Faces.{off-face, on-face}
+use Rattle.coordinates.proofs.Faces.{off-face}
 use Rattle.coordinates.specs.declared.Located.{Located}
 use Rattle.coordinates.proofs.locate.Goals as goal
 
@@ -20,18 +20,8 @@ overflow_mul-size c =
     let divisor : c.args.divisor ≤ 4294967295 = omega arith in
     record { fits = omega (arith, mul-le-mul size divisor) }
 
-pub returns-then-x-size : goal.returns-then-x-size
-returns-then-x-size c =
-    let a = c.args in
-    rw c.last_cell.ensures (sym (on-face a.x a.divisor a.size (omega arith)))
-
 pub returns-then-divisor-eq0 : goal.returns-then-divisor-eq0
 returns-then-divisor-eq0 c =
     let a = c.args in
-    rw (off-face a.x a.divisor a.size c.if-x-size.false)
+    rw (off-face a.x a.divisor a.size (λ e. omega arith))
     (by_zero a.x a.divisor c.if-divisor-eq0.true)
-
-pub returns : goal.returns
-returns c =
-    let a = c.args in
-    sym (off-face a.x a.divisor a.size c.if-x-size.false)

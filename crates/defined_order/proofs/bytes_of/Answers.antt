@@ -1,45 +1,39 @@
--- After i turns the first i bytes of the array are those of the definition.
+-- Each call of the closure reads the same counts, and gives the byte at its number.
 use mathlib.Core.List.{List}
-use mathlib.Core.Path.{◌∙◌, ap, refl, sym}
-use Prim.Native.Nat.{◌-◌, ℕ}
-use native.Mathlib.Nat.{le_antisymm, le_refl}
+use mathlib.Core.Path.{◌∙◌, ◌≡◌, refl, sym}
+use Prim.Native.Nat.{◌+◌, ◌<◌, ◌≤◌, suc, zero, ℕ}
 use native.Mathlib.Omega.{arith}
-use lib.ListN.{length-set, set, take}
-use lib.Seq.{take_all}
-use Rattle.sums.proofs.Fill.{fill_none, fill-store, take-filled}
-use Rattle.sums.specs.Fill.{filled}
+use denote.Param.Members.{Called, Mut}
+use lib.ListN.{get_or}
+use lib.Seq.{ext_get_or}
+use Rattle.std.proofs.Common.{rules}
+use Rattle.std.specs.Array.{IsFromFnResult, IsFromFnResultFrom}
+use Rattle.sums.proofs.Cases.{by_order}
+use Rattle.sums.proofs.Fill.{length-tabulate, tabulate-at}
+use Rattle.sums.specs.Fill.{tabulate}
 use Rattle.shape.specs.Shape.{counted}
 use Rattle.defined_order.specs.Bytes.{defined_byte}
 use Rattle.defined_order.proofs.bytes_of.Goals as goal
 
-pub loop-i-init : goal.loop-i-init
-loop-i-init c = (omega arith, sym (fill_none (defined_byte (counted c.args.c)) _), refl)
+-- calls of which each gives f of its number, where what holds of the closure stays
+module _ {F : Type 0} (g : Mut F (ℕ × Unit {0}) ℕ) (f : ℕ → ℕ) (P : F → Type 0)
+    (step : (p : F) (x y : ℕ) (q : F) → P p → Called g p (x, tt) y q → (y ≡ f x) × P q) where
+  each : (p : F) (ys : List ℕ) (i n : ℕ) → P p → IsFromFnResultFrom g p ys i n
+      → (k : ℕ) → i ≤ k → k < i + n → get_or ys k 0 ≡ f k
+  each p ys i zero h r k a b = absurd (omega arith)
+  each p ys i (suc n) h r k a b =
+      let s = step p i r.1 r.0 h r.3 in
+      by_order i k
+      (λ l. each r.0 ys (i + 1) n s.1 r.4 k (omega arith) (omega arith))
+      (λ l. let e : k ≡ i = omega arith in rw e (r.2.1 0 ∙ s.0))
 
-pub bounds-order-i : goal.bounds-order-i
-bounds-order-i c = omega arith
-
-pub overflow_add-i : goal.overflow_add-i
-overflow_add-i c = omega arith
-
-pub loop-i-smaller : goal.loop-i-smaller
-loop-i-smaller c = omega arith
-
-pub loop-i-preserved : goal.loop-i-preserved
-loop-i-preserved c =
-    let l = c.loop-i in
-    let f = defined_byte (counted c.args.c) in
-    let b = c.byte_at in (
-      omega arith,
-      ap (λ (s : List ℕ). set s l.i b.result) l.invariant.1
-          ∙ fill-store f l.i _ b.result (omega arith) b.ensures,
-      simp length-set l.invariant.2,
-    )
+  made : (p : F) (ys : List ℕ) (n : ℕ) → P p → IsFromFnResult g p ys n → ys ≡ tabulate f n
+  made p ys n h r =
+      ext_get_or 0 ys (tabulate f n) (r.long ∙ sym (length-tabulate f n))
+      (λ k l. let b : k < n = omega (arith, r.long) in
+      each p ys 0 n h r.each k (omega arith) (omega arith) ∙ sym (tabulate-at f n k 0 b))
 
 pub returns : goal.returns
 returns c =
-    let l = c.loop-i in
-    let f = defined_byte (counted c.args.c) in
-    let end = le_antisymm l.invariant.0 c.loop-i-test.false in
-    sym (take_all 8 l.order (omega (arith, l.invariant.2)))
-    ∙ ap (λ (s : List ℕ). take 8 s) (l.invariant.1 ∙ ap (λ (k : ℕ). filled f k _) end)
-    ∙ take-filled f 8 8 _ (le_refl 8)
+    made _ (defined_byte (counted c.args.c)) (λ p. p.0 ≡ c.args.c) (λ p x y q h k. search rules)
+    _ c.from_fn.result 8 refl c.from_fn.ensures.items

@@ -1,6 +1,6 @@
 -- Row by row, the places before the row at hand are written, and the cells of y and z have run along.
 use mathlib.Core.List.{List}
-use Prim.Native.Nat.{◌-◌, ℕ}
+use Prim.Native.Nat.{ℕ}
 use lib.IntN.{ℤ}
 use Rattle.spline.specs.Build.{direction}
 use Rattle.spline.specs.Place.{a2, a3}
@@ -23,13 +23,7 @@ invariant-loop-y l =
     × ((base : List ℤ) → Written l.net l.old l.new l.d base l.initial.work 0 l.z
     → Written l.net l.old l.new l.d base l.work l.y l.z)
 
-abbrev pub decreases-loop-y : goal.decreases-loop-y
-decreases-loop-y l = l.w2 - l.y
-
 abbrev pub invariant-loop-z : goal.invariant-loop-z
 invariant-loop-z l =
     IsCell (direction l.d) l.g a3 l.z l.cz
     × Written l.net l.old l.new l.d l.initial.work l.work 0 l.z
-
-abbrev pub decreases-loop-z : goal.decreases-loop-z
-decreases-loop-z l = l.w3 - l.z

@@ -13,8 +13,8 @@ returns-then-c-g c =
     let u : c.args.c.u ≡ n % suc g = ap (λ (t : Cell). t.u) h in
     rw (k, u) (sym (next-within g n (omega arith)))
 
-pub returns : goal.returns
-returns c =
+pub returns-else-c-g : goal.returns-else-c-g
+returns-else-c-g c =
     let g = c.args.g in
     λ n h. let k : c.args.c.base ≡ g * (n / suc g) = ap (λ (t : Cell). t.base) h in
     let u : c.args.c.u ≡ n % suc g = ap (λ (t : Cell). t.u) h in

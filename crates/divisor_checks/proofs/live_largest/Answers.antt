@@ -7,34 +7,34 @@ use Rattle.divisor_checks.proofs.Largest.{IsLargest, at-degree, at_low, from-nin
 use Rattle.divisor_checks.specs.Divisor.{live_limit}
 use Rattle.divisor_checks.proofs.live_largest.Goals as goal
 
-pub returns-then-m-lt3 : goal.returns-then-m-lt3
+pub returns-in-0-to-2 : goal.returns-in-0-to-2
 unfolding IsLargest all_to factorial
-returns-then-m-lt3 c = at_low live_limit 3 c.args.m refl (omega arith)
+returns-in-0-to-2 c = at_low live_limit 3 c.args.m refl (omega arith)
 
-pub returns-then-m-eq3 : goal.returns-then-m-eq3
+pub returns-in-3 : goal.returns-in-3
 unfolding IsLargest factorial
-returns-then-m-eq3 c = at-degree live_limit 3 2840 c.args.m refl (omega arith)
+returns-in-3 c = at-degree live_limit 3 2840 c.args.m refl c.in-3.is
 
-pub returns-then-m-eq4 : goal.returns-then-m-eq4
+pub returns-in-4 : goal.returns-in-4
 unfolding IsLargest factorial
-returns-then-m-eq4 c = at-degree live_limit 4 275 c.args.m refl (omega arith)
+returns-in-4 c = at-degree live_limit 4 275 c.args.m refl c.in-4.is
 
-pub returns-then-m-eq5 : goal.returns-then-m-eq5
+pub returns-in-5 : goal.returns-in-5
 unfolding IsLargest factorial
-returns-then-m-eq5 c = at-degree live_limit 5 64 c.args.m refl (omega arith)
+returns-in-5 c = at-degree live_limit 5 64 c.args.m refl c.in-5.is
 
-pub returns-then-m-eq6 : goal.returns-then-m-eq6
+pub returns-in-6 : goal.returns-in-6
 unfolding IsLargest factorial
-returns-then-m-eq6 c = at-degree live_limit 6 23 c.args.m refl (omega arith)
+returns-in-6 c = at-degree live_limit 6 23 c.args.m refl c.in-6.is
 
-pub returns-then-m-eq7 : goal.returns-then-m-eq7
+pub returns-in-7 : goal.returns-in-7
 unfolding IsLargest factorial
-returns-then-m-eq7 c = at-degree live_limit 7 11 c.args.m refl (omega arith)
+returns-in-7 c = at-degree live_limit 7 11 c.args.m refl c.in-7.is
 
-pub returns-then-m-eq8 : goal.returns-then-m-eq8
+pub returns-in-8 : goal.returns-in-8
 unfolding IsLargest factorial
-returns-then-m-eq8 c = at-degree live_limit 8 6 c.args.m refl (omega arith)
+returns-in-8 c = at-degree live_limit 8 6 c.args.m refl c.in-8.is
 
-pub returns : goal.returns
+pub returns-in_default : goal.returns-in_default
 unfolding IsLargest factorial
-returns c = from-nine live_limit 4 c.args.m refl (omega arith)
+returns-in_default c = from-nine live_limit 4 c.args.m refl (omega arith)

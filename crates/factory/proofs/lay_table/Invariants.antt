@@ -1,10 +1,8 @@
 -- After i turns the first i numbers of the slice are those of the defined net, since the table's are.
 use mathlib.Core.Path.{◌≡◌}
-use Prim.Native.Nat.{◌-◌, ◌≤◌, ℕ}
-use lib.ListN.{length}
+use Prim.Native.Nat.{ℕ}
 use Rattle.sums.specs.Fill.{filled}
 use Rattle.spline.specs.Box.{defined_number}
-use Rattle.factory_net.proofs.Numbers.{numbers}
 use Rattle.factory_net.proofs.TableRule.{Right}
 use Rattle.factory.specs.Factory.{factory_shape}
 use Rattle.factory.proofs.lay_table.Given as goal
@@ -14,7 +12,4 @@ abbrev pub number : ℕ → ℕ
 number = defined_number factory_shape
 
 abbrev pub invariant-loop-i : goal.invariant-loop-i
-invariant-loop-i l = (l.i ≤ 2197) × (l.net ≡ filled number l.i l.initial.net) × (length l.net ≡ length l.initial.net) × Right l.numbers
-
-abbrev pub decreases-loop-i : goal.decreases-loop-i
-decreases-loop-i l = 2197 - l.i
+invariant-loop-i l = (l.net ≡ filled number l.i l.initial.net) × Right l.numbers

@@ -2,7 +2,6 @@
 use mathlib.Core.List.{List}
 use mathlib.Core.Path.{◌∙◌, ◌≡◌, sym}
 use Prim.Native.Nat.{◌<◌, ℕ}
-use native.Mathlib.Nat.{le_antisymm}
 use native.Mathlib.Omega.{arith}
 use borrow.Author.Count.{below_more}
 use lib.Bits.{and_le_l, and_le_r, bit_or, or_add_and}
@@ -25,38 +24,12 @@ sound : (file : List ℕ) (i : ℕ) (c : ℤ) (u : ℕ) → c ≡ correction fil
     → fault_of c u ≡ 0 → Sound file i
 sound file i c u e f small h = rw (← e, ← f) (faultless c u small h)
 
-pub overflow_mul-n : goal.overflow_mul-n
-overflow_mul-n c = omega arith
-
-pub overflow_add-n : goal.overflow_add-n
-overflow_add-n c = omega arith
-
-pub returns-then-file-n : goal.returns-then-file-n
-returns-then-file-n c e = absurd (omega arith)
-
-pub loop-i-init : goal.loop-i-init
-loop-i-init c = (omega arith, λ e j l. absurd (omega arith))
-
-pub overflow_step-i : goal.overflow_step-i
-overflow_step-i c = omega arith
-
-pub loop-i-smaller : goal.loop-i-smaller
-loop-i-smaller c = omega arith
-
 pub loop-i-preserved : goal.loop-i-preserved
-loop-i-preserved c =
+loop-i-preserved c e =
     let l = c.loop-i in
-    let file = c.args.file.now in (
-      omega arith,
-      λ e.
-          let none = no_bits l.all c.fault-all.result e in
-          let read = read_back c.correction_at.type_inv c.correction_at.ensures in
-          let read-u = c.uncertainty_at.ensures ∙ behind-count file c.args.n l.i c.requires in
-          below_more _ l.i (l.invariant.1 none.0)
-          (sound file l.i _ _ read read-u (omega arith) (sym c.fault-all.ensures ∙ none.1)),
-    )
-
-pub returns : goal.returns
-returns c =
-    let e = le_antisymm c.loop-i.invariant.0 c.loop-i-test.false in
-    rw (← e) c.loop-i.invariant.1
+    let file = c.args.file.now in
+    let none = no_bits l.all c.fault-all.result e in
+    let read = read_back c.correction_at.type_inv c.correction_at.ensures in
+    let read-u = c.uncertainty_at.ensures ∙ behind-count file c.args.n l.i c.requires in
+    below_more _ l.i (l.invariant none.0)
+    (sound file l.i _ _ read read-u (omega arith) (sym c.fault-all.ensures ∙ none.1))

@@ -1,14 +1,13 @@
 -- The two tests are those of the definition, in its order.
-use mathlib.Core.Path.{◌∙◌, sym}
+use Rattle.std.proofs.lemmas.Grind.{common_steps}
+use native.Mathlib.Omega.{arith}
 use Rattle.fitting.specs.Fitting.{sums_fit}
 use Rattle.fitting.proofs.sums_fit.Goals as goal
 
-pub returns-then-not-is_held : goal.returns-then-not-is_held
+pub returns-then-is_held : goal.returns-then-is_held
 unfolding sums_fit
-returns-then-not-is_held c = simp (sym c.is_held.ensures ∙ c.if-not-is_held.true)
+returns-then-is_held c = grind (arith, common_steps)
 
-pub returns : goal.returns
+pub returns-else-is_held : goal.returns-else-is_held
 unfolding sums_fit
-returns c =
-    let held = sym c.is_held.ensures ∙ c.if-not-is_held.false in
-    simp held c.is_held-2.ensures
+returns-else-is_held c = grind (arith, common_steps)

@@ -1,20 +1,20 @@
 -- Checks 3 and 4 stop with their refusal; past them the defined net is laid, and the two lists are compared.
 use mathlib.Core.List.{List}
-use mathlib.Core.Path.{◌∙◌, ◌≡◌, ap, refl, sym}
+use mathlib.Core.Path.{◌∙◌, ◌≡◌, ap, sym}
 use Prim.Native.Nat.{ℕ}
 use lib.ListN.{length}
 use Rattle.spline.specs.Multiplicities.{Multiplicities}
-use Rattle.checks.specs.declared.Checked.TheVariants.{Passed}
 use Rattle.shape.specs.Shape.{counted}
 use Rattle.shape.specs.declared.Shape.{Shape}
 use Rattle.comparison.specs.Compare.{comparison}
-use Rattle.inspection.proofs.InspectChecks.{compared, given, given-limits, given-stopped}
+use Rattle.inspection.proofs.InspectChecks.{compared, given, given-limits}
 use Rattle.inspection.proofs.InspectChecks.{laid-length, rooms}
 use Rattle.inspection.proofs.check_net.Goals as goal
-use Rattle.inspection.proofs.check_net.Goals.{In_default}
+use Rattle.inspection.proofs.check_net.Goals.{In_ok-check_given}
+use Rattle.checks.specs.Checks.{no_refusal}
 
 -- 3 and 4 have passed
-module _ (t : In_default) where
+module _ (t : In_ok-check_given) where
   abbrev v : Multiplicities
   v = counted t.args.c
 
@@ -27,23 +27,12 @@ module _ (t : In_default) where
   abbrev room : ℕ
   room = length t.args.work.now
 
-  passed : given v net defined room ≡ Passed
-  passed = sym t.check_given-checked.ensures ∙ t.in_default.is
-
-pub returns-in-Stopped : goal.returns-in-Stopped
-returns-in-Stopped c =
-    let a = c.args in
-    let k = c.check_given-checked in
-    let h = sym k.ensures ∙ c.in-Stopped.is in
-    let work = length a.work.now in record {
-      value = sym (given-stopped (counted a.c) a.net.now a.defined.now work _ h);
-      defined_len_unchanged = refl;
-      work_len_unchanged = refl;
-    }
+  passed : given v net defined room ≡ no_refusal
+  passed = sym t.check_given.ensures ∙ t.in_ok-check_given.was
 
 pub lay_defined-requires : goal.lay_defined-requires
 lay_defined-requires c =
-    let t = (goal.at.lay_defined-requires c).In_default in
+    let t = (goal.at.lay_defined-requires c).In_ok-check_given in
     let r = rooms (v t) (net t) (defined t) (room t) (passed t) in record {
       limits = given-limits (v t) (net t) (defined t) (room t) (passed t);
       c_in_bounds = (r.1, r.2);
@@ -51,7 +40,7 @@ lay_defined-requires c =
 
 pub returns : goal.returns
 returns c =
-    let t = (goal.at.returns c).In_default in
+    let t = (goal.at.returns c).In_ok-check_given in
     let l = c.lay_defined in
     let laid = l.new.defined in
     let shape = c.shape_of.ensures.value in record {

@@ -9,7 +9,6 @@ use Rattle.spline.proofs.Multiplicities.{Positive, limits-positive}
 use Rattle.spline.specs.Box.{defined_number, net_list, places, width}
 use Rattle.spline.specs.Inner.Limits.{Limits}
 use Rattle.spline.specs.Multiplicities.{Multiplicities}
-use Rattle.checks.specs.declared.Checked.TheVariants.{Passed}
 use Rattle.shape.specs.Shape.{counted}
 use Rattle.orders.proofs.Accepted.{build-passes}
 use Rattle.builds.specs.Build.{build_net, BuildWork}
@@ -18,6 +17,7 @@ use Rattle.inspection.proofs.DefinedBytes.{order, order-filled, order-good, orde
 use Rattle.inspection.proofs.DefinedBytes.{order-places, repeat_count}
 use Rattle.defined_order.specs.Bytes.{defined_byte}
 use Rattle.inspection.proofs.lay_defined.Goals as goal
+use Rattle.checks.specs.Checks.{no_refusal}
 
 -- the defined order is made, as the first of these bytes
 module _ (v : Multiplicities) (l : Limits v 12) (bytes : List ℕ)
@@ -35,7 +35,7 @@ module _ (v : Multiplicities) (l : Limits v 12) (bytes : List ℕ)
   made-length = sym (order-length v positive few bytes is)
 
   passes : (net-length work-length : ℕ) → places (width v) ≤ net-length → places (width v) ≤ work-length
-      → build_checks made net-length work-length ≡ Passed
+      → build_checks made net-length work-length ≡ no_refusal
   passes net-length work-length net work =
       let e = order-places v positive few bytes is in
       build-passes made _ _ (record {

@@ -2,6 +2,7 @@
 use Prim.Native.Nat.{◌<◌, ◌^◌}
 use native.Mathlib.Omega.{arith}
 use Rattle.text.proofs.Puts.{put_then}
+use Rattle.checks.specs.Checks.{number_of}
 use Rattle.lines.proofs.Lengths.{refused-length}
 use Rattle.lines.specs.Lines.{refused_text}
 use Rattle.lines.proofs.put_refusal.Goals as goal
@@ -10,5 +11,5 @@ pub returns : goal.returns
 unfolding refused_text
 returns c =
     let r = c.args.refusal in
-    let h : r.number < 10 ^ 10 = omega arith in
-    (put_then c.put_word-at.ensures c.put_item.ensures, refused-length r h)
+    let h : number_of r < 10 ^ 10 = omega arith in
+    (rw (← c.number.ensures) (put_then c.put_word-at.ensures c.put_item.ensures), refused-length r h)

@@ -6,13 +6,8 @@ use native.Mathlib.Omega.{arith}
 use lib.ListN.{get_or, length}
 use Rattle.text.specs.Put.{Put}
 use Rattle.spline.specs.Multiplicities.{order_multiplicities}
-use Rattle.checks.specs.Checks.{passed_or}
-use Rattle.checks.specs.declared.Checked.{Checked}
-use Rattle.checks.specs.declared.Checked.TheVariants.{Passed}
-use Rattle.unit.proofs.Answers.{unit-changed, unit-refused}
 use Rattle.unit.specs.Unit.{empty_unit, net_of, with_net}
 use Rattle.unit.specs.declared.Unit.{Unit}
-use Rattle.unit.specs.declared.UnitAnswer.TheVariants.{Changed, Refused}
 use Rattle.builds.specs.Build.{build_answer}
 use Rattle.orders.specs.Order.{build_checks}
 use Rattle.listing.proofs.Built.{listed, listed-length, listed-text}
@@ -20,15 +15,18 @@ use Rattle.listing.proofs.Printed.{printed-refused}
 use Rattle.listing.specs.Inner.Fit.{Listed}
 use Rattle.listing.specs.Print.{net_text}
 use Rattle.listing.proofs.print_order.Goals as goal
-use Rattle.listing.proofs.print_order.Goals.{After-build-answer}
+use Rattle.listing.proofs.print_order.Goals.{After-build}
+use Rattle.checks.specs.Checks.{Checked, no_refusal, passed_or}
+use Rattle.std.specs.Prelude.{Err, Ok}
+use Rattle.checks.proofs.Checks.{made-by, refused-by}
 
 -- once the build has answered
-module _ (c : After-build-answer) where
+module _ (c : After-build) where
   abbrev typed : List ℕ
   typed = c.args.order.now
 
   abbrev net : List ℕ
-  net = c.build-answer.new.net
+  net = c.build.new.net
 
   abbrev checks : Checked
   checks = build_checks typed 9261 9261
@@ -36,41 +34,41 @@ module _ (c : After-build-answer) where
   abbrev changed : Unit
   changed = with_net empty_unit (order_multiplicities typed)
 
-  answered : c.build-answer.result ≡ passed_or checks (Changed changed) Refused
+  answered : c.build.result ≡ passed_or checks (Ok changed) Err
   unfolding build_answer
   answered =
-      c.build-answer.ensures.answer
+      c.build.ensures.answer
       ∙ ap (λ (u : Unit). build_answer u typed 9261 9261) c.empty.ensures
 
   -- a unit comes where the checks pass
-  made : (u : Unit) → c.build-answer.result ≡ Changed u → (checks ≡ Passed) × (u ≡ changed)
-  made u e = unit-changed checks _ (sym answered ∙ e)
+  made : (u : Unit) → c.build.result ≡ Ok u → (checks ≡ no_refusal) × (u ≡ changed)
+  made u e = made-by checks _ (sym answered ∙ e)
 
 pub put_net-requires : goal.put_net-requires
 put_net-requires c =
-    let here = (goal.at.put_net-requires c).After-build-answer in
-    let m = made here _ c.in-Changed.is in
+    let here = (goal.at.put_net-requires c).After-build in
+    let m = made here _ c.in-Ok.is in
     subst (λ (u : Unit). Listed u (net here)) (sym m.1)
-    (listed (typed here) m.0 _ (net here) refl c.build-answer.ensures.net)
+    (listed (typed here) m.0 _ (net here) refl c.build.ensures.net)
 
-pub returns-in-Changed : goal.returns-in-Changed
-returns-in-Changed c =
-    let here = (goal.at.returns-in-Changed c).After-build-answer in
-    let m = made here _ c.in-Changed.is in
+pub returns-in-Ok : goal.returns-in-Ok
+returns-in-Ok c =
+    let here = (goal.at.returns-in-Ok c).After-build in
+    let m = made here _ c.in-Ok.is in
     let p = c.put_net in (
       subst (λ (t : List ℕ). Put t c.args.out.now p.new.out 0 p.result)
           (ap (λ (u : Unit). net_text (net_of u) (λ i. get_or (net here) i 0)) m.1
-          ∙ listed-text (typed here) m.0 _ (net here) refl c.build-answer.ensures.net)
+          ∙ listed-text (typed here) m.0 _ (net here) refl c.build.ensures.net)
           p.ensures,
-      listed-length (typed here) m.0 _ (net here) refl c.build-answer.ensures.net,
+      listed-length (typed here) m.0 _ (net here) refl c.build.ensures.net,
     )
 
-pub returns-in-Refused : goal.returns-in-Refused
-returns-in-Refused c =
-    let here = (goal.at.returns-in-Refused c).After-build-answer in
+pub returns-in-Err : goal.returns-in-Err
+returns-in-Err c =
+    let here = (goal.at.returns-in-Err c).After-build in
     let p = c.put_refusal in
-    let given = c.in-Refused.is in
-    let e = unit-refused (checks here) _ (sym (answered here) ∙ given) in (
+    let given = c.in-Err.is in
+    let e = refused-by (checks here) _ (sym (answered here) ∙ given) in (
       subst (λ (t : List ℕ). Put t c.args.out.now p.new.out 0 p.result)
           (sym (printed-refused (typed here) _ e))
           p.ensures.0,

@@ -8,10 +8,10 @@ use Rattle.spline.specs.Multiplicities.{degree}
 use Rattle.floats.specs.Floats.{float}
 use Rattle.unit.specs.Unit.{net_of}
 use Rattle.answers.proofs.Live.{switched-off, switched-on}
-use Rattle.answers.specs.declared.LiveAnswer.TheVariants.{Both, Shift}
 use Rattle.parts.specs.Parts.{parts_to}
 use Rattle.live.proofs.summed.Goals as goal
 use Rattle.live.proofs.summed.Goals.{After-degree_of-m}
+use Rattle.answers.specs.declared.LiveValue.TheVariants.{Both, Shift}
 
 -- the sums are of the degree of the unit's net
 module _ (c : After-degree_of-m) where

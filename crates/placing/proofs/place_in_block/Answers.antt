@@ -7,9 +7,9 @@ use Rattle.cell_checks.specs.Inside.{cell_check}
 use Rattle.axis_order.specs.Weights.{placing_on}
 use Rattle.placing.proofs.HandedOn.{alike}
 use Rattle.placing.specs.Placing.{block_cells}
-use Rattle.placing.specs.declared.PlacingAnswer.TheVariants.{Placed}
 use Rattle.placing.proofs.place_in_block.Goals as goal
 use Rattle.placing.proofs.place_in_block.Goals.{After-check_cell, After-locate-c}
+use Rattle.std.specs.Prelude.{Ok}
 
 -- the point is located on each axis
 module _ (c : After-locate-c) where
@@ -35,12 +35,9 @@ cell-is c =
     ∙ alike (λ a b c. cell_check (net_of u) (sizes u) (on_axes a.cell b.cell c.cell))
     (first-is c.before) (second_is c.before) (third-is c.before)
 
-pub returns-in-Stopped : goal.returns-in-Stopped
-returns-in-Stopped c = simp (sym (cell-is (goal.at.returns-in-Stopped c).After-check_cell) ∙ c.in-Stopped.is)
-
 pub returns : goal.returns
 returns c =
-    simp (sym (cell-is (goal.at.returns c).After-check_cell) ∙ c.in_default.is)
-    (ap Placed
+    simp (sym (cell-is (goal.at.returns c).After-check_cell) ∙ c.in_ok-check_cell.was)
+    (ap Ok
     (c.placing_of.ensures
     ∙ alike (λ x y z. placing_on x y z c.args.divisor) (first-is (goal.at.returns c).After-locate-c) (second_is (goal.at.returns c).After-locate-c) (third-is (goal.at.returns c).After-locate-c)))

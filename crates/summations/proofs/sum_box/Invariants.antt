@@ -1,6 +1,6 @@
 -- Row by row, the places before the row at hand are summed.
 use mathlib.Core.List.{List}
-use Prim.Native.Nat.{◌-◌, ℕ}
+use Prim.Native.Nat.{ℕ}
 use lib.IntN.{ℤ}
 use Rattle.spline.specs.Build.{direction}
 use Rattle.shape.proofs.Rows.{Filled}
@@ -18,11 +18,5 @@ invariant-loop-y l =
     (base : List ℕ) → Summed l.work l.s l.d base l.initial.net 0 l.z
     → Summed l.work l.s l.d base l.net l.y l.z
 
-abbrev pub decreases-loop-y : goal.decreases-loop-y
-decreases-loop-y l = l.w2 - l.y
-
 abbrev pub invariant-loop-z : goal.invariant-loop-z
 invariant-loop-z l = Summed l.work l.s l.d l.initial.net l.net 0 l.z
-
-abbrev pub decreases-loop-z : goal.decreases-loop-z
-decreases-loop-z l = l.w3 - l.z

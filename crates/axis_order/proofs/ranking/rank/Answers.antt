@@ -15,10 +15,10 @@ returns-then-u2-u1 c =
     ∙ third-ranked (on_axes a.u1 a.u2 a.u3) a1 a2
     ∙ simp (le-leb a.u2 a.u1 (omega arith))
 
-pub returns : goal.returns
+pub returns-else-u2-u1 : goal.returns-else-u2-u1
 unfolding rank_axes
-returns c =
+returns-else-u2-u1 c =
     let a = c.args in
-    c.with_third-2.ensures
+    c.with_third-else-u2-u1.ensures
     ∙ third-ranked (on_axes a.u1 a.u2 a.u3) a2 a1
     ∙ simp (lt-leb a.u2 a.u1 (omega arith))

@@ -13,7 +13,7 @@ use Rattle.sums.specs.Search.{at}
 use Rattle.unit.specs.Gaps.{is_gap}
 use Rattle.frame.specs.declared.Frame.{Frame}
 use Rattle.window.specs.Window.{gap_of}
-use Rattle.window.specs.declared.gap.Gap.TheVariants.{At}
+use Rattle.std.specs.Prelude.{Some}
 use Rattle.window.specs.declared.position.Position.{Position}
 use Rattle.blending.proofs.SoFar.{passed, passed-next}
 use Rattle.blending.proofs.Steps.{kept-room}
@@ -130,7 +130,7 @@ returns-then-is_gap c =
     let hit : window_gaps (corrections turn) (frame turn) ≡ at (place turn) =
     turn-hit _ _ _ _ _ (here turn) _ c.loop-at.invariant.1 c.loop-at-test.true
     (sym (gap_is (goal.at.returns-then-is_gap c).After-is_gap) ∙ c.if-is_gap.true) in record {
-      gap = ap At c.entry_at-entry.ensures ∙ sym (ap gap_of hit);
+      gap = ap Some c.entry_at-entry.ensures ∙ sym (ap gap_of hit);
       result_value = ap at c.entry_at-entry.ensures ∙ sym hit;
       t_after = λ n. absurd (nowhere-at (sym n ∙ hit));
       bounded = λ n. absurd (nowhere-at (sym n ∙ hit));

@@ -20,7 +20,7 @@ products : (c : In-loop-t) → (let f = c.args.f in
 products c =
     let h = c.requires in
     let at = c.loop-t in
-    let o = rw (← at.invariant.2) at (ordered_at at.t) in
+    let o = rw (← at.invariant.1) at (ordered_at at.t) in
     let p : at.l.p ≤ 9 = omega arith in
     let r : at.l.r ≤ 9 = omega arith in
     let s : at.l.s ≤ 9 = omega arith in
@@ -28,7 +28,6 @@ products c =
 
 pub loop-t-init : goal.loop-t-init
 loop-t-init c = (
-  omega arith,
   refl,
   c.first-l.ensures,
   λ i l. absurd (omega arith),
@@ -36,31 +35,24 @@ loop-t-init c = (
 )
 
 pub overflow_mul-offsets : goal.overflow_mul-offsets
-overflow_mul-offsets c = let m = products (goal.at.overflow_mul-offsets c).In-loop-t in omega arith
+overflow_mul-offsets c =
+    let m = products (goal.at.overflow_mul-offsets c).In-loop-t in omega arith
 
 pub overflow_mul-offsets-in-loop-t : goal.overflow_mul-offsets-in-loop-t
-overflow_mul-offsets-in-loop-t c = let m = products (goal.at.overflow_mul-offsets-in-loop-t c).In-loop-t in omega arith
+overflow_mul-offsets-in-loop-t c =
+    let m = products (goal.at.overflow_mul-offsets-in-loop-t c).In-loop-t in omega arith
 
 pub overflow_add-offsets : goal.overflow_add-offsets
-overflow_add-offsets c = let m = products (goal.at.overflow_add-offsets c).In-loop-t in omega arith
+overflow_add-offsets c =
+    let m = products (goal.at.overflow_add-offsets c).In-loop-t in omega arith
 
 pub overflow_mul-offsets-in-loop-t-2 : goal.overflow_mul-offsets-in-loop-t-2
-overflow_mul-offsets-in-loop-t-2 c = let m = products (goal.at.overflow_mul-offsets-in-loop-t-2 c).In-loop-t in omega arith
+overflow_mul-offsets-in-loop-t-2 c =
+    let m = products (goal.at.overflow_mul-offsets-in-loop-t-2 c).In-loop-t in omega arith
 
 pub overflow_add-offsets-in-loop-t : goal.overflow_add-offsets-in-loop-t
-overflow_add-offsets-in-loop-t c = let m = products (goal.at.overflow_add-offsets-in-loop-t c).In-loop-t in omega arith
-
-pub offset_bounds-offsets-t : goal.offset_bounds-offsets-t
-offset_bounds-offsets-t c = omega (arith, c.requires.places)
-
-pub bounds-offsets-t : goal.bounds-offsets-t
-bounds-offsets-t c = omega (arith, c.requires.places)
-
-pub overflow_add-t : goal.overflow_add-t
-overflow_add-t c = omega arith
-
-pub loop-t-smaller : goal.loop-t-smaller
-loop-t-smaller c = omega arith
+overflow_add-offsets-in-loop-t c =
+    let m = products (goal.at.overflow_add-offsets-in-loop-t c).In-loop-t in omega arith
 
 pub loop-t-preserved : goal.loop-t-preserved
 loop-t-preserved c =
@@ -69,18 +61,11 @@ loop-t-preserved c =
     let room : at.t < 220 = omega (arith, c.requires.places) in
     let v = offset_of f at.l in
     let here : number_at (set at.offsets at.t v) at.t ≡ offset_of f (local_at at.t)
-    = get_or-set_same at.offsets at.t v 0 (omega (arith, at.invariant.1)) ∙ ap (offset_of f) at.invariant.2 in
+    = get_or-set_same at.offsets at.t v 0 (omega (arith, at.invariant.0)) ∙ ap (offset_of f) at.invariant.1 in
     let others : (i : ℕ) → i < at.t → number_at (set at.offsets at.t v) i ≡ offset_of f (local_at i)
-    = λ i h. get_or-set_other at.offsets at.t i v 0 (λ e. omega arith) ∙ at.invariant.3 i h in (
-      omega (arith, c.loop-t-test.true),
-      length-set at.offsets at.t v ∙ at.invariant.1,
-      local-next at.t c.next-l.ensures at.invariant.2,
+    = λ i h. get_or-set_other at.offsets at.t i v 0 (λ e. omega arith) ∙ at.invariant.2 i h in (
+      length-set at.offsets at.t v ∙ at.invariant.0,
+      local-next at.t c.next-l.ensures at.invariant.1,
       below_more _ at.t others here,
-      λ i h k. get_or-set_other at.offsets at.t i v 0 (λ e. omega arith) ∙ at.invariant.4 i (omega arith) k,
+      λ i h k. get_or-set_other at.offsets at.t i v 0 (λ e. omega arith) ∙ at.invariant.3 i (omega arith) k,
     )
-
-pub returns : goal.returns
-returns c =
-    let at = c.loop-t in
-    let e : at.t ≡ c.args.f.count = omega arith in
-    (λ t h. at.invariant.3 t (omega arith), λ t h k. at.invariant.4 t (omega arith) k)

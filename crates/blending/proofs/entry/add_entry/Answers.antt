@@ -30,7 +30,6 @@ four-added g four share correction uncertainty s0 s1 read h =
 
 pub loop-g-init : goal.loop-g-init
 loop-g-init c = (
-  omega arith,
   record { of_shares = refl; of_shifts = refl; of_spreads = refl },
   added_none _ 0 (4 * 0) _ (omega arith),
 )
@@ -39,20 +38,17 @@ pub overflow_mul-t : goal.overflow_mul-t
 overflow_mul-t c = omega (arith, c.requires.0.few)
 
 pub four_at-four-requires : goal.four_at-four-requires
-four_at-four-requires c = (omega (arith, c.requires.0.few), λ i l. c.requires.0.in_net (4 * c.loop-g.g + i) (omega arith))
+four_at-four-requires c = (
+  omega (arith, c.requires.0.few),
+  λ i l. c.requires.0.in_net (4 * c.loop-g.g + i) (omega arith),
+)
 
 pub add_four-requires : goal.add_four-requires
 add_four-requires c = (
   omega (arith, c.requires.0.few),
-  kept-room c.requires.1 c.loop-g.invariant.1,
-  λ i h k. rw (c.loop-g.invariant.2.after i h) (c.requires.0.small i (omega arith)),
+  kept-room c.requires.1 c.loop-g.invariant.0,
+  λ i h k. rw (c.loop-g.invariant.1.after i h) (c.requires.0.small i (omega arith)),
 )
-
-pub overflow_add-g : goal.overflow_add-g
-overflow_add-g c = omega arith
-
-pub loop-g-smaller : goal.loop-g-smaller
-loop-g-smaller c = omega arith
 
 pub loop-g-preserved : goal.loop-g-preserved
 loop-g-preserved c =
@@ -66,28 +62,27 @@ loop-g-preserved c =
     let left = c.add_four.new in
     let now = sums_in left.shares left.shifts left.spreads in
     let k = c.add_four.auto in (
-      omega (arith, c.loop-g-test.true),
       record {
-        of_shares = omega (arith, at.invariant.1.of_shares);
-        of_shifts = omega (arith, at.invariant.1.of_shifts);
-        of_spreads = omega (arith, at.invariant.1.of_spreads);
+        of_shares = omega (arith, at.invariant.0.of_shares);
+        of_shifts = omega (arith, at.invariant.0.of_shifts);
+        of_spreads = omega (arith, at.invariant.0.of_spreads);
       },
-      added-on adds 0 (4 * at.g) (4 * (at.g + 1)) first so_far now (omega arith) (omega arith) at.invariant.2
+      added-on adds 0 (4 * at.g) (4 * (at.g + 1)) first so_far now (omega arith) (omega arith) at.invariant.1
           (four-added at.g c.four_at-four.result share correction a.uncertainty so_far now
           c.four_at-four.ensures c.add_four.ensures),
     )
 
 pub shape_of-shares : goal.shape_of-shares
-shape_of-shares c = c.loop-g.invariant.1.of_shares
+shape_of-shares c = c.loop-g.invariant.0.of_shares
 
 pub shape_of-shifts : goal.shape_of-shifts
-shape_of-shifts c = c.loop-g.invariant.1.of_shifts
+shape_of-shifts c = c.loop-g.invariant.0.of_shifts
 
 pub shape_of-spreads : goal.shape_of-spreads
-shape_of-spreads c = c.loop-g.invariant.1.of_spreads
+shape_of-spreads c = c.loop-g.invariant.0.of_spreads
 
 pub returns : goal.returns
 returns c =
     let at = c.loop-g in
     let e : at.g ≡ c.args.groups = omega arith in
-    λ t l. rw (to_z-of_z c.ranges.correction) at (at.invariant.2.inside t (omega arith) (omega arith))
+    λ t l. rw (to_z-of_z c.ranges.correction) at (at.invariant.1.inside t (omega arith) (omega arith))

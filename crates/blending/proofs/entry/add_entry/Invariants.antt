@@ -1,6 +1,6 @@
 -- After g turns the first 4×g places have their shares added, the others not yet.
 use mathlib.Core.List.{List}
-use Prim.Native.Nat.{◌*◌, ◌+◌, ◌-◌, ◌≤◌, ℕ}
+use Prim.Native.Nat.{◌*◌, ◌+◌, ℕ}
 use lib.IntN.{ℤ}
 use Rattle.sums.specs.Fill.{number_at}
 use Rattle.blending.proofs.Steps.{Kept}
@@ -17,10 +17,6 @@ adds-at net offsets share correction uncertainty t =
     entry_sums (share-at net offsets share t) correction uncertainty
 
 abbrev pub invariant-loop-g : goal.invariant-loop-g
-invariant-loop-g l = (l.g ≤ l.groups)
-    × Kept l.initial.shares l.initial.shifts l.initial.spreads l.shares l.shifts l.spreads
+invariant-loop-g l = Kept l.initial.shares l.initial.shifts l.initial.spreads l.shares l.shifts l.spreads
     × AddedIn 0 (4 * l.g) (adds-at l.net l.offsets l.share l.correction l.uncertainty)
     (sums_in l.initial.shares l.initial.shifts l.initial.spreads) (sums_in l.shares l.shifts l.spreads)
-
-abbrev pub decreases-loop-g : goal.decreases-loop-g
-decreases-loop-g l = l.groups - l.g

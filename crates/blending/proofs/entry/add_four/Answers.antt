@@ -45,32 +45,16 @@ returns-then-all_zero c =
 pub loop-i-init : goal.loop-i-init
 loop-i-init c =
     let t = c.args.t in (
-      omega arith,
       record { of_shares = refl; of_shifts = refl; of_spreads = refl },
       added_none _ t (t + 0) _ (omega arith),
     )
-
-pub overflow_add-t : goal.overflow_add-t
-overflow_add-t c = omega arith
-
-pub offset_bounds-four-i : goal.offset_bounds-four-i
-offset_bounds-four-i c = omega arith
-
-pub bounds-four-i : goal.bounds-four-i
-bounds-four-i c = omega arith
 
 pub add_share-requires : goal.add_share-requires
 add_share-requires c =
     let at = c.loop-i in
     let i = c.args.t + at.i in
-    let same = at.invariant.2.after i (omega arith) in
-    (omega arith, kept-room c.requires.1 at.invariant.1, rw same (c.requires.2 i (omega arith) (omega arith)))
-
-pub overflow_add-i : goal.overflow_add-i
-overflow_add-i c = omega arith
-
-pub loop-i-smaller : goal.loop-i-smaller
-loop-i-smaller c = omega arith
+    let same = at.invariant.1.after i (omega arith) in
+    (omega arith, kept-room c.requires.1 at.invariant.0, rw same (c.requires.2 i (omega arith) (omega arith)))
 
 pub loop-i-preserved : goal.loop-i-preserved
 loop-i-preserved c =
@@ -83,28 +67,27 @@ loop-i-preserved c =
     let left = c.add_share.new in
     let now = sums_in left.shares left.shifts left.spreads in
     let k = c.add_share.auto in (
-      omega (arith, c.loop-i-test.true),
       record {
-        of_shares = omega (arith, at.invariant.1.of_shares);
-        of_shifts = omega (arith, at.invariant.1.of_shifts);
-        of_spreads = omega (arith, at.invariant.1.of_spreads);
+        of_shares = omega (arith, at.invariant.0.of_shares);
+        of_shifts = omega (arith, at.invariant.0.of_shifts);
+        of_spreads = omega (arith, at.invariant.0.of_spreads);
       },
       added-on share a.t (a.t + at.i) (a.t + (at.i + 1)) first so_far now (omega arith) (omega arith)
-          at.invariant.2
+          at.invariant.1
           (one-added a.t at.i a.four correction a.uncertainty so_far now c.add_share.ensures),
     )
 
 pub shape_of-shares : goal.shape_of-shares
-shape_of-shares c = c.loop-i.invariant.1.of_shares
+shape_of-shares c = c.loop-i.invariant.0.of_shares
 
 pub shape_of-shifts : goal.shape_of-shifts
-shape_of-shifts c = c.loop-i.invariant.1.of_shifts
+shape_of-shifts c = c.loop-i.invariant.0.of_shifts
 
 pub shape_of-spreads : goal.shape_of-spreads
-shape_of-spreads c = c.loop-i.invariant.1.of_spreads
+shape_of-spreads c = c.loop-i.invariant.0.of_spreads
 
 pub returns : goal.returns
 returns c =
     let at = c.loop-i in
     let e : at.i ≡ 4 = omega arith in
-    rw (to_z-of_z c.ranges.correction, e) at at.invariant.2
+    rw (to_z-of_z c.ranges.correction, e) at at.invariant.1

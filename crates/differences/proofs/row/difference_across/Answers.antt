@@ -1,14 +1,12 @@
 -- The lowered coordinate a runs along with x; each turn writes the difference of the two numbers read at it.
-use mathlib.Core.Path.{◌∙◌, ◌≡◌, ap, ap₂, refl, sym}
-use Prim.Native.Nat.{◌+◌, ℕ}
-use native.Mathlib.Nat.{le_antisymm}
+use mathlib.Core.Path.{◌∙◌, ◌≡◌, ap, ap₂, sym}
+use Prim.Native.Nat.{ℕ}
 use native.Mathlib.Omega.{arith}
 use lib.IntN.{◌-ℤ◌, pos, sub_ℕ, ℤ}
 use lib.ListN.{length-set}
 use mir.Facts.{to_z-of_z}
 use mir.Syntax.{w32}
 use mir.Val.{SFits, of_z, to_z}
-use Rattle.sums.specs.Fill.{filled}
 use Rattle.spline.specs.Box.{spread}
 use Rattle.spline.specs.Place.{Place, place}
 use Rattle.shape.specs.Shape.{widths}
@@ -81,7 +79,7 @@ module _ (c : After-minus) where
   near-is : near ≡ near_coordinate g p t.x at
   near-is =
       let l = c.loop-x in
-      running-near g p t.x at l.r near c.requires.w1_in_bounds.2 l.invariant.1 l.invariant.3
+      running-near g p t.x at l.r near c.requires.w1_in_bounds.2 l.invariant.0 l.invariant.2
 
   -- the difference at a lowered coordinate
   abbrev value_at : ℕ → ℤ
@@ -96,31 +94,6 @@ module _ (c : After-minus) where
       ∙ ap₂ (λ (m n : ℕ). wrapped (pos m -ℤ pos n)) near-number far-number
       ∙ ap value_at near-is
 
-pub end_of-near-requires : goal.end_of-near-requires
-end_of-near-requires c = c.requires.growing.boxed
-
-pub end_back-far-requires : goal.end_back-far-requires
-end_back-far-requires c = c.requires.growing.boxed
-
-pub loop-x-init : goal.loop-x-init
-loop-x-init c =
-    let e : c.args.i ≡ c.args.i + 0 = omega arith in (
-      omega arith,
-      omega arith,
-      omega arith,
-      omega arith,
-      refl,
-      λ f h k. k ∙ ap (λ (n : ℕ). filled f n c.args.work.now) e,
-    )
-
-pub read-requires : goal.read-requires
-read-requires c =
-    (c.requires.growing.boxed, c.requires.growing.held, near-end (goal.at.read-requires c).In-loop-x)
-
-pub read_back-requires : goal.read_back-requires
-read_back-requires c =
-    (c.requires.growing.boxed, c.requires.growing.held, far-end (goal.at.read_back-requires c).In-loop-x)
-
 pub loop-x-preserved : goal.loop-x-preserved
 loop-x-preserved c =
     let q = (goal.at.loop-x-preserved c).After-minus in
@@ -128,26 +101,15 @@ loop-x-preserved c =
     let work = c.args.work.now in
     let r = c.if-r-eq0.r in
     let a = c.if-r-eq0.a in
-    let stay = stays (g q) (p q) (t q).x l.x l.r l.a r a l.invariant.3 in
-    let go = goes_on (g q) (p q) (t q).x l.x l.r l.a r a l.invariant.3 in (
-      omega arith,
+    let stay = stays (g q) (p q) (t q).x l.x l.r l.a r a l.invariant.2 in
+    let go = goes_on (g q) (p q) (t q).x l.x l.r l.a r a l.invariant.2 in (
       elim c.if-r-eq0.branch [ then-r-eq0 w ↦ omega arith | else-r-eq0 w ↦ omega arith ],
       elim c.if-r-eq0.branch [ then-r-eq0 w ↦ omega arith | else-r-eq0 w ↦ omega arith ],
       elim c.if-r-eq0.branch [
         | then-r-eq0 w ↦ stay w.if-r-eq0.true w.r-is w.a-is
         | else-r-eq0 w ↦ go (omega arith) w.r-is w.a-is
       ],
-      simp length-set l.invariant.4,
-      λ f h e. fills-next f work l.work c.args.i l.x _ (l.invariant.5 f h e) (omega arith)
+      simp length-set l.invariant.3,
+      λ f h e. fills-next f work l.work c.args.i l.x _ (l.invariant.4 f h e) (omega arith)
           (written q ∙ sym (h l.x (omega arith))),
     )
-
-pub shape_of-work : goal.shape_of-work
-shape_of-work c = c.loop-x.invariant.4
-
-pub returns : goal.returns
-returns c =
-    let l = c.loop-x in
-    let work = c.args.work.now in
-    let done = le_antisymm l.invariant.0 c.loop-x-test.false in
-    λ f h k. l.invariant.5 f h k ∙ ap (λ (n : ℕ). filled f (c.args.i + n) work) done

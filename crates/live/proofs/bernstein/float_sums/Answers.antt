@@ -39,12 +39,26 @@ weight-of c =
     ∙ ap
     (λ (k : LocalPlace).
     float (pos (term_weight m c.args.q (m - k.p) (k.p - k.r) (k.r - k.s) k.s)))
-    c.loop-t.invariant.2
+    c.loop-t.invariant.0
 
 pub term-first-requires : goal.term-first-requires
 term-first-requires c =
     let p = c.requires in
     sized p.0 p.1 p.2 0 (first-listed (goal.at.term-first-requires c).Start)
+
+pub invariant_of-weights : goal.invariant_of-weights
+invariant_of-weights c =
+    let q = c.args.q in
+    let scaled = c.requires.0 in record {
+      scaled = scaled;
+      binomials = c.table-table.ensures;
+      powers = record {
+        of0 = sizes.powers-tabled scaled q.l0 (omega arith) c.powers-x0.ensures.table;
+        of1 = sizes.powers-tabled scaled q.l1 (omega arith) c.powers-x1.ensures.table;
+        of2 = sizes.powers-tabled scaled q.l2 (omega arith) c.powers-x2.ensures.table;
+        of3 = sizes.powers-tabled scaled q.l3 (omega arith) c.powers-x3.ensures.table;
+      };
+    }
 
 pub loop-t-init : goal.loop-t-init
 loop-t-init c =
@@ -53,8 +67,6 @@ loop-t-init c =
     let powers = sizes.powers-tabled p.0 c.args.q.l0 (omega arith) c.powers-x0.ensures.table in
     let weight = powers c.args.m (omega arith)
     ∙ ap (λ (n : ℕ). float (pos n)) (sizes.first-weight c.args.m c.args.q) in (
-      omega arith,
-      omega (arith, c.local_places-count.ensures, first),
       local-next 0 c.next-l.ensures c.first.ensures,
       next-numerator p.0 p.1 p.2 0 first weight (sum-none _ (signed_at c.args.shifts.now) _)
           c.term-first.ensures.0,
@@ -65,21 +77,12 @@ loop-t-init c =
 pub weight-w-requires : goal.weight-w-requires
 weight-w-requires c =
     let o = ordered_at c.loop-t.t in
-    let h = listed (goal.at.weight-w-requires c).In-loop-t in (
-      c.requires.0,
-      rw c.loop-t.invariant.2 (record {
-        third = o.third;
-        second = o.second;
-        first = degree-at c.args.m c.loop-t.t c.requires.0.degree h;
-      }),
-      c.table-b.ensures,
-      record {
-        of0 = sizes.powers-tabled c.requires.0 c.args.q.l0 (omega arith) c.powers-x0.ensures.table;
-        of1 = sizes.powers-tabled c.requires.0 c.args.q.l1 (omega arith) c.powers-x1.ensures.table;
-        of2 = sizes.powers-tabled c.requires.0 c.args.q.l2 (omega arith) c.powers-x2.ensures.table;
-        of3 = sizes.powers-tabled c.requires.0 c.args.q.l3 (omega arith) c.powers-x3.ensures.table;
-      },
-    )
+    let h = listed (goal.at.weight-w-requires c).In-loop-t in
+    rw c.loop-t.invariant.0 (record {
+      third = o.third;
+      second = o.second;
+      first = degree-at c.args.m c.loop-t.t c.requires.0.degree h;
+    })
 
 pub offset_bounds-shifts-t : goal.offset_bounds-shifts-t
 offset_bounds-shifts-t c = omega (arith, room (goal.at.offset_bounds-shifts-t c).In-loop-t)
@@ -98,12 +101,6 @@ term-part-requires c =
     let p = c.requires in
     sized p.0 p.1 p.2 c.loop-t.t (listed (goal.at.term-part-requires c).In-loop-t)
 
-pub overflow_add-t : goal.overflow_add-t
-overflow_add-t c = omega (arith, room (goal.at.overflow_add-t c).In-loop-t)
-
-pub loop-t-smaller : goal.loop-t-smaller
-loop-t-smaller c = omega (arith, c.loop-t-test.true)
-
 pub loop-t-preserved : goal.loop-t-preserved
 loop-t-preserved c =
     let places = goal.at.loop-t-preserved c in
@@ -111,17 +108,15 @@ loop-t-preserved c =
     let h = listed places.In-loop-t in
     let p = c.requires in
     let at = c.loop-t in (
-      omega arith,
-      omega (arith, c.loop-t-test.true),
-      local-next at.t c.next-l-in-loop-t.ensures at.invariant.2,
-      next-numerator p.0 p.1 p.2 at.t h weight at.invariant.3 c.term-part.ensures.0,
-      next-uncertainty p.0 p.1 p.2 at.t h weight at.invariant.4 c.term-part.ensures.1,
+      local-next at.t c.next-l-in-loop-t.ensures at.invariant.0,
+      next-numerator p.0 p.1 p.2 at.t h weight at.invariant.1 c.term-part.ensures.0,
+      next-uncertainty p.0 p.1 p.2 at.t h weight at.invariant.2 c.term-part.ensures.1,
     )
 
 pub returns : goal.returns
 returns c =
     let e : c.loop-t.t ≡ local_places c.args.m
-    = omega (arith, c.local_places-count.ensures, c.loop-t.invariant.1, c.loop-t-test.false) in (
-      sizes.numerator-float c.requires.0 c.requires.1 c.requires.2 (rw e at c.loop-t.invariant.3),
-      sizes.uncertainty-float c.requires.0 c.requires.1 c.requires.2 (rw e at c.loop-t.invariant.4),
+    = omega (arith, c.local_places-count.ensures, count-least c.args.m c.requires.0.degree) in (
+      sizes.numerator-float c.requires.0 c.requires.1 c.requires.2 (rw e at c.loop-t.invariant.1),
+      sizes.uncertainty-float c.requires.0 c.requires.1 c.requires.2 (rw e at c.loop-t.invariant.2),
     )

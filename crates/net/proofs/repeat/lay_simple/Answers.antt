@@ -1,49 +1,26 @@
--- After i turns the first i numbers of the slice are those of the simple net.
-use mathlib.Core.List.{List, []}
-use mathlib.Core.Path.{◌∙◌, ap, refl, sym}
+-- The simple net is 0 but at the index 13, that of (1, 1, 1), as is computed place by place.
+use mathlib.Core.List.{List, [], ◌++◌}
+use mathlib.Core.Path.{◌∙◌, ◌≡◌, ap, refl}
 use Prim.Native.Nat.{ℕ}
-use native.Mathlib.Nat.{le_antisymm}
 use native.Mathlib.Omega.{arith}
-use lib.ListN.{length-set, set}
-use Rattle.sums.proofs.Fill.{fill_none, fill-store}
-use Rattle.sums.specs.Fill.{filled}
+use lib.ListN.{drop, length, length-take, replicate, set, take}
+use Rattle.std.proofs.lemmas.List.{set-append_left}
+use Rattle.sums.specs.Fill.{filled, tabulate}
+use Rattle.spline.specs.Build.{built, simple}
 use Rattle.orders.specs.Order.{order_number}
 use Rattle.net.proofs.repeat.lay_simple.Goals as goal
 
-pub loop-i-init : goal.loop-i-init
-loop-i-init c = (omega arith, sym (fill_none (order_number []) _), refl)
-
-pub simple_number-requires : goal.simple_number-requires
-simple_number-requires c = omega arith
-
-pub offset_bounds-net-i : goal.offset_bounds-net-i
-offset_bounds-net-i c = omega arith
-
-pub bounds-net-i : goal.bounds-net-i
-bounds-net-i c = omega arith
-
-pub overflow_add-i : goal.overflow_add-i
-overflow_add-i c = omega arith
-
-pub loop-i-smaller : goal.loop-i-smaller
-loop-i-smaller c = omega arith
-
-pub loop-i-preserved : goal.loop-i-preserved
-loop-i-preserved c =
-    let l = c.loop-i in
-    let n = c.simple_number in (
-      omega arith,
-      ap (λ (s : List ℕ). set s l.i n.result) l.invariant.1
-          ∙ fill-store (order_number []) l.i _ n.result (omega arith) n.ensures,
-      simp length-set l.invariant.2,
-    )
-
-pub shape_of-net : goal.shape_of-net
-shape_of-net c = c.loop-i.invariant.2
+computed : set (replicate 27 0) 13 1 ≡ tabulate (order_number []) 27
+unfolding built simple tabulate
+computed = refl
 
 pub returns : goal.returns
+unfolding filled
 returns c =
-    let l = c.loop-i in
     let net = c.args.net.now in
-    let end = le_antisymm l.invariant.0 c.loop-i-test.false in
-    l.invariant.1 ∙ ap (λ (k : ℕ). filled (order_number []) k net) end
+    let n : length (take 27 net) ≡ 27 = omega (arith, length-take 27 net) in
+    let zeros : c.fill.new.self ≡ replicate 27 0
+    = c.fill.ensures.after (λ y h. h) ∙ ap (λ (k : ℕ). replicate k 0) n in
+    ap (λ (s : List ℕ). set (s ++ drop 27 net) 13 1) zeros
+    ∙ set-append_left (replicate 27 0) (drop 27 net) 13 1 (omega arith)
+    ∙ ap (λ (s : List ℕ). s ++ drop 27 net) computed

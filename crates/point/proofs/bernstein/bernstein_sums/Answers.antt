@@ -37,7 +37,7 @@ weight-of c =
     let m = c.args.m in
     c.weight-w.ensures.0
     ∙ ap (λ (k : LocalPlace). term_weight m c.args.q (m - k.p) (k.p - k.r) (k.r - k.s) k.s)
-    c.loop-t.invariant.1
+    c.loop-t.invariant.0
 
 term_is : (c : After-term) → (let a = c.args in
     c.term.result
@@ -63,26 +63,30 @@ powers-x2-requires c = powers-within c.args.m c.args.q c.requires.0 _ (omega ari
 pub powers-x3-requires : goal.powers-x3-requires
 powers-x3-requires c = powers-within c.args.m c.args.q c.requires.0 _ (omega arith)
 
+pub invariant_of-weights : goal.invariant_of-weights
+invariant_of-weights c = record {
+  scaled = c.requires.0;
+  binomials = rw c.table-table.ensures table-held;
+  powers = record {
+    of0 = c.powers-x0.ensures;
+    of1 = c.powers-x1.ensures;
+    of2 = c.powers-x2.ensures;
+    of3 = c.powers-x3.ensures;
+  };
+}
+
 pub loop-t-init : goal.loop-t-init
-loop-t-init c = (omega arith, c.first-l.ensures, parts_none _ _ _ _)
+loop-t-init c = (c.first-l.ensures, parts_none _ _ _ _)
 
 pub weight-w-requires : goal.weight-w-requires
 weight-w-requires c =
-    let o = ordered_at c.loop-t.t in (
-      c.requires.0,
-      rw c.loop-t.invariant.1 (record {
-        third = o.third;
-        second = o.second;
-        first = degree-at c.args.m c.loop-t.t c.requires.0.degree (listed (goal.at.weight-w-requires c).In-loop-t);
-      }),
-      rw c.table-b.ensures table-held,
-      record {
-        of0 = c.powers-x0.ensures;
-        of1 = c.powers-x1.ensures;
-        of2 = c.powers-x2.ensures;
-        of3 = c.powers-x3.ensures;
-      },
-    )
+    let o = ordered_at c.loop-t.t in
+    let h = listed (goal.at.weight-w-requires c).In-loop-t in
+    rw c.loop-t.invariant.0 (record {
+      third = o.third;
+      second = o.second;
+      first = degree-at c.args.m c.loop-t.t c.requires.0.degree h;
+    })
 
 pub offset_bounds-shifts-t : goal.offset_bounds-shifts-t
 offset_bounds-shifts-t c = omega (arith, room (goal.at.offset_bounds-shifts-t c).In-loop-t)
@@ -100,35 +104,31 @@ pub term-requires : goal.term-requires
 term-requires c =
     let shift = signed_at c.args.shifts.now in
     let fits : SFits w64 (shift c.loop-t.t) = record { sfits = c.term-arg-1.given } in
-    let small = shift-size c.requires.0 c.requires.1 c.loop-t.t (listed (goal.at.term-requires c).In-loop-t) in
-    rw (to_z-of_z fits, weight-of (goal.at.term-requires c).After-weight-w) (
+    let weight = weight-of (goal.at.term-requires c).After-weight-w in
+    let h = listed (goal.at.term-requires c).In-loop-t in
+    let small = shift-size c.requires.0 c.requires.1 c.loop-t.t h in
+    rw (to_z-of_z fits, weight) (
       omega (arith, small, factorial-nine c.args.m c.requires.0.degree),
-      shift-weighed c.requires.0 c.requires.1 c.loop-t.t (listed (goal.at.term-requires c).In-loop-t),
-      omega (arith, rw (weight-of (goal.at.term-requires c).After-weight-w) at c.weight-w.ensures.1),
-      spread-weighed c.requires.0 c.requires.1 c.loop-t.t (listed (goal.at.term-requires c).In-loop-t),
+      shift-weighed c.requires.0 c.requires.1 c.loop-t.t h,
+      omega (arith, rw weight at c.weight-w.ensures.1),
+      spread-weighed c.requires.0 c.requires.1 c.loop-t.t h,
     )
 
 pub joined-sum-requires : goal.joined-sum-requires
 joined-sum-requires c =
-    rw (c.loop-t.invariant.2, term_is (goal.at.joined-sum-requires c).After-term) (
-      next-numerator c.requires.0 c.requires.1 c.loop-t.t (listed (goal.at.joined-sum-requires c).In-loop-t),
-      next-uncertainty c.requires.0 c.requires.1 c.loop-t.t (listed (goal.at.joined-sum-requires c).In-loop-t),
+    let h = listed (goal.at.joined-sum-requires c).In-loop-t in
+    rw (c.loop-t.invariant.1, term_is (goal.at.joined-sum-requires c).After-term) (
+      next-numerator c.requires.0 c.requires.1 c.loop-t.t h,
+      next-uncertainty c.requires.0 c.requires.1 c.loop-t.t h,
     )
-
-pub overflow_add-t : goal.overflow_add-t
-overflow_add-t c = omega arith
-
-pub loop-t-smaller : goal.loop-t-smaller
-loop-t-smaller c = omega arith
 
 pub loop-t-preserved : goal.loop-t-preserved
 loop-t-preserved c =
     let a = c.args in
     let at = c.loop-t in (
-      omega (arith, c.loop-t-test.true),
-      local-next at.t c.next-l.ensures at.invariant.1,
+      local-next at.t c.next-l.ensures at.invariant.0,
       c.joined-sum.ensures
-          ∙ ap₂ add_parts at.invariant.2 (term_is (goal.at.loop-t-preserved c).After-term)
+          ∙ ap₂ add_parts at.invariant.1 (term_is (goal.at.loop-t-preserved c).After-term)
           ∙ parts_next a.m a.q (signed_at a.shifts.now) (number_at a.spreads.now) at.t,
     )
 
@@ -136,6 +136,6 @@ pub returns : goal.returns
 returns c =
     let a = c.args in
     let e : c.loop-t.t ≡ local_places a.m
-    = omega (arith, c.local_places-count.ensures, c.loop-t.invariant.0, c.loop-t-test.false) in
-    c.loop-t.invariant.2
+    = omega (arith, c.local_places-count.ensures) in
+    c.loop-t.invariant.1
     ∙ ap (first_parts a.m a.q (signed_at a.shifts.now) (number_at a.spreads.now)) e

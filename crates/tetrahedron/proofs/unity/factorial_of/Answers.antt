@@ -1,13 +1,12 @@
 -- The table's rule is one computed test of its entries.
 use mathlib.Core.Bool.{true}
 use mathlib.Core.List.{List, [], ◌∷◌}
-use mathlib.Core.Path.{◌≡◌, refl}
+use mathlib.Core.Path.{◌∙◌, ◌≡◌, refl}
 use Prim.Native.Nat.{◌≤◌, ℕ}
 use native.Mathlib.Omega.{arith}
 use borrow.Author.Tests.{eqb-true}
 use lib.Dec.{eqb}
 use lib.ListN.{get_or}
-use Rattle.sums.proofs.Coefficient.{factorial-nine}
 use Rattle.sums.proofs.Search.{all-at}
 use Rattle.sums.specs.Coefficient.{factorial}
 use Rattle.sums.specs.Search.{all_to}
@@ -23,10 +22,6 @@ tested = refl
 entry : (n : ℕ) → n ≤ 9 → get_or table n 0 ≡ factorial n
 entry n h = eqb-true _ _ (all-at 10 _ tested n (omega arith))
 
-pub overflow_cast-result : goal.overflow_cast-result
-unfolding table
-overflow_cast-result c = omega (arith, entry c.args.n c.requires, factorial-nine c.args.n c.requires)
-
 pub returns : goal.returns
 unfolding table
-returns c = entry c.args.n c.requires
+returns c = c.from.ensures ∙ entry c.args.n c.requires
