@@ -14,7 +14,8 @@ use Rattle.spline.specs.Place.{Axis}
 use Rattle.unit.specs.Unit.{holds_block, holds_net, net_of, sizes}
 use Rattle.unit.specs.declared.Unit.{Unit}
 use Rattle.limits.specs.Limits.{lent_checks, room_checks, unit_checks}
-use Rattle.divisor_checks.specs.Divisor.{divisor_checks, limit, live_divisor_checks, live_limit, live_scale_check}
+use Rattle.divisor_checks.specs.Divisor.{divisor_checks, limit, live_divisor_checks, live_limit}
+use Rattle.divisor_checks.specs.Divisor.{live_scale_check}
 use Rattle.divisor_checks.specs.Divisor.{scale}
 use Rattle.coordinates.specs.Coordinates.{from_origin, sign_check}
 use Rattle.cell_checks.specs.Inside.{cell_check, inside}
@@ -34,7 +35,9 @@ use Rattle.blended.specs.Blending.{adds_up}
 use Rattle.blended.specs.Gaps.{first_gap}
 use Rattle.checks.specs.Checks.{Checked, and_then, no_refusal, passed_or}
 use Rattle.std.specs.Prelude.{Err, Ok}
-use Rattle.checks.specs.declared.Refusal.TheVariants.{BadDivisor, ImpossiblePlacing, LargeLiveScale, LargeScale, NetRoom, NoBlock, NoNet, Outside, UnevenShares, WindowGap}
+use Rattle.checks.specs.declared.Refusal.TheVariants.{BadDivisor, ImpossiblePlacing, LargeLiveScale}
+use Rattle.checks.specs.declared.Refusal.TheVariants.{LargeScale, NetRoom, NoBlock, NoNet, Outside}
+use Rattle.checks.specs.declared.Refusal.TheVariants.{UnevenShares, WindowGap}
 
 abbrev pub of_unit : List ℕ
 of_unit = 21 ∷ 22 ∷ []

@@ -31,7 +31,8 @@ use Rattle.blended.specs.Blending.{adds_up}
 use Rattle.blended.specs.Gaps.{first_gap}
 use Rattle.checks.specs.Checks.{Checked, and_then, no_refusal}
 use Rattle.std.specs.Prelude.{Err}
-use Rattle.checks.specs.declared.Refusal.TheVariants.{BlockRoom, ImpossiblePlacing, LargeLiveScale, NetRoom, UnevenShares, WindowGap}
+use Rattle.checks.specs.declared.Refusal.TheVariants.{BlockRoom, ImpossiblePlacing, LargeLiveScale, NetRoom}
+use Rattle.checks.specs.declared.Refusal.TheVariants.{UnevenShares, WindowGap}
 use Rattle.checks.specs.declared.Refusal.{Refusal}
 use Rattle.checks.proofs.Checks.{refused-by}
 
@@ -51,7 +52,8 @@ room-never u net_length corrections_length uncertainties_length =
 fifteen-never : (u : Unit) (D : ℕ) → Never impossible (live_scale_check (net_of u) D)
 unfolding live_scale_check
 fifteen-never u D =
-    if-never LargeLiveScale impossible (ltb live_limit (scale (degree (net_of u)) D)) no_refusal (λ _ e. omega arith) (passed-never impossible)
+    if-never LargeLiveScale impossible (ltb live_limit (scale (degree (net_of u)) D)) no_refusal
+    (λ _ e. omega arith) (passed-never impossible)
 
 -- ---- the answers
 
@@ -67,7 +69,8 @@ module _ (u : Unit) (net : List ℕ) (corrections : List ℤ) (uncertainties : L
   window-never =
       at-never WindowGap impossible (first_gap (net_of u) (sizes u) (correction_at (sizes u) corrections) (placing_cell q)) _
       (λ _ _ e. omega arith)
-      (if-never UnevenShares impossible (not (adds_up (net_of u) (number_at net) q)) no_refusal (λ _ e. omega arith) (passed-never impossible))
+      (if-never UnevenShares impossible (not (adds_up (net_of u) (number_at net) q)) no_refusal
+      (λ _ e. omega arith) (passed-never impossible))
 
   -- the valuing call refuses by 17 exactly where the placing is stopped so
   pub valuing-stopped : (valuing_answer u net corrections uncertainties q ≡ Err ImpossiblePlacing)
