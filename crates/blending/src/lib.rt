@@ -22,7 +22,8 @@ mod adding;
 mod entry;
 pub mod lent;
 
-// Writes the first of the blended corrections and uncertainties to the caller's arrays.
+// Writes the first of the blended corrections and uncertainties to the caller's arrays. By copy_from_slice the
+// archive would need memcpy.
 fn hand_over(
     count: usize,
     corrections: &[i64; 220],
@@ -36,8 +37,10 @@ fn hand_over(
     ensures spreads_after { spreads.new
         ≡ filled (number_at uncertainties.now) count spreads.old }
 {
-    shifts[..count].copy_from_slice(&corrections[..count]);
-    spreads[..count].copy_from_slice(&uncertainties[..count]);
+    for t in 0..count {
+        shifts[t] = corrections[t];
+        spreads[t] = uncertainties[t];
+    }
 }
 
 // The same for a placing that was looked at: its window decides, by 13 or 23.

@@ -1,11 +1,11 @@
 -- Which check of a chain it was that stopped, by its refusal: m i is the one that speaks of the place i.
 use mathlib.Core.Bool.{Bool, false, true}
-use mathlib.Core.Path.{◌≡◌, ap, refl, sym}
+use mathlib.Core.Path.{◌∙◌, ◌≡◌, ap, refl, sym}
 use Prim.Native.Nat.{ℕ}
 use Rattle.sums.specs.Search.{Found, at, nowhere}
 use Rattle.checks.proofs.Checks.{stopped-passed}
 use Rattle.checks.specs.declared.Refusal.{Refusal}
-use Rattle.checks.specs.Checks.{Checked, and_then, no_refusal, number_of, refuse_at, refuse_if}
+use Rattle.checks.specs.Checks.{Checked, and_then, no_refusal, number_of, place_of, refuse_at, refuse_if}
 use Rattle.std.specs.Prelude.{Err, Ok}
 
 -- one that speaks of no place
@@ -38,6 +38,14 @@ pub at-never : (k m : ℕ → Refusal) (found : Found) (rest : Checked)
     → ((j i : ℕ) → number_of (k j) ≡ number_of (m i) → ⊥) → Never m rest → Never m (refuse_at k found rest)
 at-never k m nowhere rest other never i h = never i h
 at-never k m (at j) rest other never i h = other_number (other j i) h
+
+-- a search that stopped found the place of its refusal
+pub at-stopped : (m : ℕ → Refusal) (i : ℕ) (found : Found) → ((j : ℕ) → place_of (m j) ≡ j)
+    → refuse_at m found no_refusal ≡ Err (m i) → found ≡ at i
+at-stopped m i nowhere placed h = stopped-passed (m i) (sym h)
+at-stopped m i (at k) placed h =
+    let e : m k ≡ m i = cc in
+    ap at (sym (placed k) ∙ ap place_of e ∙ placed i)
 
 -- of two chains one after the other, the second stopped where the first never does
 pub then-second : (m : ℕ → Refusal) (i : ℕ) (start rest : Checked) → Never m start

@@ -16,10 +16,19 @@ abbrev pub no_placing : Placing
 no_placing =
     record { k1 = 0; k2 = 0; k3 = 0; p = 0; r = 0; s = 0; l0 = 0; l1 = 0; l2 = 0; l3 = 0 }
 
+-- Section 12.2: a refused placing call, by number and place
+abbrev pub refused_placing : ℕ → ℕ → FlatPlacingAnswer
+refused_placing number place = record { number = number; place = place; placing = no_placing }
+
 -- Section 12.2: the answer of a placing call
 abbrev pub flat_placing : Result Placing Refusal → FlatPlacingAnswer
 flat_placing (Ok q) = record { number = 0; place = 0; placing = q }
-flat_placing (Err r) = record { number = number_of r; place = place_of r; placing = no_placing }
+flat_placing (Err r) = refused_placing (number_of r) (place_of r)
+
+-- Section 12.2: a refused point call or valuing call, by number and place
+abbrev pub refused_point : ℕ → ℕ → FlatPointAnswer
+refused_point number place =
+    record { number = number; place = place; numerator = pos 0; uncertainty = 0; denominator = 0 }
 
 -- Section 12.2: the answer of a point call or of a valuing call
 abbrev pub flat_point : Result Fraction Refusal → FlatPointAnswer
@@ -30,12 +39,20 @@ flat_point (Ok f) = record {
   uncertainty = f.uncertainty;
   denominator = f.denominator;
 }
-flat_point (Err r) =
-    record { number = number_of r; place = place_of r; numerator = pos 0; uncertainty = 0; denominator = 0 }
+flat_point (Err r) = refused_point (number_of r) (place_of r)
 
 -- Section 12.2: of the flag of a live call, 0 switches the uncertainty off, and every other byte leaves it on
 abbrev pub switched_on : ℕ → Bool
 switched_on flag = not (eqb flag 0)
+
+-- Section 12.2: a refused live call or live valuing call, by number and place
+abbrev pub refused_live : ℕ → ℕ → FlatLiveAnswer
+refused_live number place = record {
+  number = number;
+  place = place;
+  numerator = float (pos 0);
+  uncertainty = float (pos 0);
+}
 
 -- Section 12.2: the answer of a live call or of a live valuing call; a float that it does not have is +0
 abbrev pub flat_live : Result LiveValue Refusal → FlatLiveAnswer
@@ -43,9 +60,4 @@ flat_live (Ok (Both f)) =
     record { number = 0; place = 0; numerator = f.numerator; uncertainty = f.uncertainty }
 flat_live (Ok (Shift n)) =
     record { number = 0; place = 0; numerator = n; uncertainty = float (pos 0) }
-flat_live (Err r) = record {
-  number = number_of r;
-  place = place_of r;
-  numerator = float (pos 0);
-  uncertainty = float (pos 0);
-}
+flat_live (Err r) = refused_live (number_of r) (place_of r)

@@ -4,6 +4,7 @@
 
 ghost use Rattle.std.specs.Prelude.{◌≡◌};
 ghost use Rattle.flat.specs.Flat.{flat_live, flat_placing, flat_point, switched_on};
+ghost use Rattle.flat.specs.Flat.{refused_live, refused_placing, refused_point};
 
 use answers::{Fraction, LiveValue};
 use axis_order::Placing;
@@ -41,6 +42,30 @@ pub struct FlatLiveAnswer {
     pub uncertainty: f64,
 }
 
+impl FlatPlacingAnswer {
+    // A refusal of any number and place.
+    pub fn refused(number: u32, place: usize) -> Self
+        ensures { result ≡ refused_placing number place }
+    {
+        FlatPlacingAnswer {
+            number,
+            place,
+            placing: Placing {
+                k1: 0,
+                k2: 0,
+                k3: 0,
+                p: 0,
+                r: 0,
+                s: 0,
+                l0: 0,
+                l1: 0,
+                l2: 0,
+                l3: 0,
+            },
+        }
+    }
+}
+
 // The answer of a placing call.
 impl From<Result<Placing, Refusal>> for FlatPlacingAnswer {
     ghost from_gives = { λ answer r. r ≡ flat_placing answer };
@@ -52,22 +77,22 @@ impl From<Result<Placing, Refusal>> for FlatPlacingAnswer {
                 place: 0,
                 placing: q,
             },
-            Err(refusal) => FlatPlacingAnswer {
-                number: refusal.number(),
-                place: refusal.place(),
-                placing: Placing {
-                    k1: 0,
-                    k2: 0,
-                    k3: 0,
-                    p: 0,
-                    r: 0,
-                    s: 0,
-                    l0: 0,
-                    l1: 0,
-                    l2: 0,
-                    l3: 0,
-                },
-            },
+            Err(refusal) => FlatPlacingAnswer::refused(refusal.number(), refusal.place()),
+        }
+    }
+}
+
+impl FlatPointAnswer {
+    // A refusal of any number and place.
+    pub fn refused(number: u32, place: usize) -> Self
+        ensures { result ≡ refused_point number place }
+    {
+        FlatPointAnswer {
+            number,
+            place,
+            numerator: 0,
+            uncertainty: 0,
+            denominator: 0,
         }
     }
 }
@@ -85,13 +110,7 @@ impl From<Result<Fraction, Refusal>> for FlatPointAnswer {
                 uncertainty: value.uncertainty,
                 denominator: value.denominator,
             },
-            Err(refusal) => FlatPointAnswer {
-                number: refusal.number(),
-                place: refusal.place(),
-                numerator: 0,
-                uncertainty: 0,
-                denominator: 0,
-            },
+            Err(refusal) => FlatPointAnswer::refused(refusal.number(), refusal.place()),
         }
     }
 }
@@ -101,6 +120,21 @@ pub fn switched_on(flag: u8) -> bool
     ensures { result ≡ switched_on flag }
 {
     flag != 0
+}
+
+impl FlatLiveAnswer {
+    // A refusal of any number and place.
+    #[tactic(auto, using(floats::proofs::Totals::zero_is))]
+    pub fn refused(number: u32, place: usize) -> Self
+        ensures { result ≡ refused_live number place }
+    {
+        FlatLiveAnswer {
+            number,
+            place,
+            numerator: 0.0,
+            uncertainty: 0.0,
+        }
+    }
 }
 
 // The answer of a live call or of a live valuing call.
@@ -122,12 +156,7 @@ impl From<Result<LiveValue, Refusal>> for FlatLiveAnswer {
                 numerator,
                 uncertainty: 0.0,
             },
-            Err(refusal) => FlatLiveAnswer {
-                number: refusal.number(),
-                place: refusal.place(),
-                numerator: 0.0,
-                uncertainty: 0.0,
-            },
+            Err(refusal) => FlatLiveAnswer::refused(refusal.number(), refusal.place()),
         }
     }
 }

@@ -1,5 +1,5 @@
 -- The unit record of the C interface, and the answers that carry one: Section 12.
-use Rattle.std.specs.Prelude.{Err, Ok, Result, eqb, pos}
+use Rattle.std.specs.Prelude.{Err, Ok, Result, eqb, pos, ℕ}
 use Rattle.unit.specs.declared.Unit.{Unit}
 use Rattle.flat_unit.specs.declared.FlatUnit.{FlatUnit}
 use Rattle.flat_unit.specs.declared.FlatUnitAnswer.{FlatUnitAnswer}
@@ -75,13 +75,17 @@ block_half before after = record {
   o3 = after.o3;
 }
 
+-- Section 12.2: a refusal by its number and place, and the record as it was handed in
+abbrev pub refused_unit : ℕ → ℕ → FlatUnit → FlatUnitAnswer
+refused_unit number place before = record { number = number; place = place; unit = before }
+
 -- Section 12.2: the answer of a call that sets the net half and was handed the record `before`: a refusal's
 -- number and place and the record as it was, or 0, 0 and the record with the net
 abbrev pub flat_net : FlatUnit → Result Unit Refusal → FlatUnitAnswer
 flat_net before (Ok after) = record { number = 0; place = 0; unit = net_half before after }
-flat_net before (Err r) = record { number = number_of r; place = place_of r; unit = before }
+flat_net before (Err r) = refused_unit (number_of r) (place_of r) before
 
 -- Section 12.2: the answer of a load, likewise
 abbrev pub flat_block : FlatUnit → Result Unit Refusal → FlatUnitAnswer
 flat_block before (Ok after) = record { number = 0; place = 0; unit = block_half before after }
-flat_block before (Err r) = record { number = number_of r; place = place_of r; unit = before }
+flat_block before (Err r) = refused_unit (number_of r) (place_of r) before

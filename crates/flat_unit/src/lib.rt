@@ -4,7 +4,8 @@
 
 ghost use Rattle.std.specs.Prelude.{◌≡◌, IfErr, IfOk};
 ghost use Rattle.checks.specs.Checks.{number_of, place_of};
-ghost use Rattle.flat_unit.specs.Record.{block_half, empty_flat, flat_block, flat_net, net_half, unit_of};
+ghost use Rattle.flat_unit.specs.Record.{block_half, empty_flat, flat_block, flat_net, net_half};
+ghost use Rattle.flat_unit.specs.Record.{refused_unit, unit_of};
 
 use checks::Refusal;
 use unit::Unit;
@@ -112,11 +113,22 @@ impl FlatUnit {
 }
 
 impl FlatUnitAnswer {
+    // A refusal of any number and place, and the record `before`.
+    pub fn refused(number: u32, place: usize, before: FlatUnit) -> Self
+        ensures { result ≡ refused_unit number place before }
+    {
+        FlatUnitAnswer {
+            number,
+            place,
+            unit: before,
+        }
+    }
+
     // The changed record, or the refusal and the record `before`.
     fn of(before: FlatUnit, changed: Result<FlatUnit, Refusal>) -> Self
         ensures ok { IfOk changed (λ unit. result ≡ record { number = 0; place = 0; unit = unit }) }
         ensures err { IfErr changed (λ refusal. result
-            ≡ record { number = number_of refusal; place = place_of refusal; unit = before }) }
+            ≡ refused_unit (number_of refusal) (place_of refusal) before) }
     {
         match changed {
             Ok(unit) => FlatUnitAnswer {
@@ -124,11 +136,7 @@ impl FlatUnitAnswer {
                 place: 0,
                 unit,
             },
-            Err(refusal) => FlatUnitAnswer {
-                number: refusal.number(),
-                place: refusal.place(),
-                unit: before,
-            },
+            Err(refusal) => FlatUnitAnswer::refused(refusal.number(), refusal.place(), before),
         }
     }
 }

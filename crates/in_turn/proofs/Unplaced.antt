@@ -1,7 +1,7 @@
 -- A point that is not placed is refused so by the call that places and values in turn.
 use mathlib.Core.Bool.{Bool}
 use mathlib.Core.List.{List}
-use mathlib.Core.Path.{◌≡◌, refl}
+use mathlib.Core.Path.{◌≡◌, ap, refl}
 use Prim.Native.Nat.{ℕ}
 use lib.IntN.{ℤ}
 use lib.ListN.{length}
@@ -13,11 +13,32 @@ use Rattle.divisor_checks.specs.Divisor.{live_divisor_checks}
 use Rattle.placing.specs.Place.{place_answer}
 use Rattle.answers.specs.Live.{live_answer}
 use Rattle.answers.specs.Point.{point_answer}
-use Rattle.in_turn.specs.Unplaced.{unplaced_live, unplaced_point}
+use Rattle.in_turn.specs.Unplaced.{HandedOn, unplaced_live, unplaced_point}
+use Rattle.answers.specs.declared.Fraction.{Fraction}
+use Rattle.answers.specs.declared.LiveValue.{LiveValue}
 use Rattle.answers.proofs.Live as live
 use Rattle.answers.proofs.Point as point
 use Rattle.checks.specs.Checks.{Checked, and_then, passed_or}
-use Rattle.std.specs.Prelude.{Err, Ok}
+use Rattle.std.specs.Prelude.{Err, Ok, Result}
+
+-- of the library's own kind it is as the definitions say
+as_it_is : {A : Type 0} (k : Checked) (r : Refusal) (answer : Result A Refusal)
+    → HandedOn (λ s t. t ≡ s) k r answer → answer ≡ passed_or k (Err r) Err
+as_it_is (Ok _) r answer h = h
+as_it_is (Err s) r (Ok a) h = absurd h.1
+as_it_is (Err s) r (Err t) h = ap Err h.1
+
+pub as-point : (u : Unit) (n c k : ℕ) (r : Refusal) (answer : Result Fraction Refusal)
+    → HandedOn (λ s t. t ≡ s) (lent_checks u n c k) r answer → answer ≡ unplaced_point u n c k r
+unfolding unplaced_point
+as-point u n c k r answer h = as_it_is (lent_checks u n c k) r answer h
+
+pub as-live : (u : Unit) (n c k D : ℕ) (r : Refusal) (answer : Result LiveValue Refusal)
+    → HandedOn (λ s t. t ≡ s) (and_then (lent_checks u n c k) (live_divisor_checks (net_of u) D)) r answer
+    → answer ≡ unplaced_live u n c k D r
+unfolding unplaced_live
+as-live u n c k D r answer h =
+    as_it_is (and_then (lent_checks u n c k) (live_divisor_checks (net_of u) D)) r answer h
 
 module _ (u : Unit) (net : List ℕ) (corrections : List ℤ) (uncertainties : List ℕ) (x y z : ℤ) (D : ℕ)
     {r : Refusal} (h : place_answer u x y z D ≡ Err r) where

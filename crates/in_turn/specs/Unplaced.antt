@@ -1,13 +1,19 @@
 -- What calls that place and value in turn answer where a point is not placed: Sections 11.4 and 11.8.
-use Rattle.std.specs.Prelude.{Err, Result, ℕ}
+use Rattle.std.specs.Prelude.{Err, IsErr, IsErrAnd, Ok, Result, ℕ, ◌≡◌}
 use Rattle.checks.specs.declared.Refusal.{Refusal}
 use Rattle.unit.specs.Unit.{net_of}
 use Rattle.unit.specs.declared.Unit.{Unit}
 use Rattle.limits.specs.Limits.{lent_checks}
 use Rattle.divisor_checks.specs.Divisor.{live_divisor_checks}
-use Rattle.checks.specs.Checks.{and_then, passed_or}
+use Rattle.checks.specs.Checks.{Checked, and_then, passed_or}
 use Rattle.answers.specs.declared.Fraction.{Fraction}
 use Rattle.answers.specs.declared.LiveValue.{LiveValue}
+
+-- what is answered where a refusal of some kind is handed on and these checks come before it: theirs, as one of
+-- that kind, or else that refusal
+abbrev pub HandedOn : {A R : Type 0} → (Refusal → R → Type 0) → Checked → R → Result A R → Type 0
+HandedOn gives (Ok _) r answer = answer ≡ Err r
+HandedOn gives (Err s) r answer = IsErr answer × IsErrAnd answer (gives s)
 
 module _ (u : Unit) (net_length corrections_length uncertainties_length : ℕ) where
   -- a point call: the refusal of what is lent, or else that of the placing call

@@ -3,8 +3,12 @@
 #![tactic(auto)]
 
 ghost use Rattle.std.specs.Prelude.{◌≡◌};
+ghost use Rattle.checks.specs.Checks.{and_then};
+ghost use Rattle.unit.specs.Unit.{net_of};
+ghost use Rattle.limits.specs.Limits.{lent_checks};
+ghost use Rattle.divisor_checks.specs.Divisor.{live_divisor_checks};
 ghost use Rattle.in_turn.specs.Early.{early_checks};
-ghost use Rattle.in_turn.specs.Unplaced.{unplaced_live, unplaced_point};
+ghost use Rattle.in_turn.specs.Unplaced.{HandedOn};
 
 use answers::{Fraction, LiveValue};
 use axis_order::Placing;
@@ -12,34 +16,33 @@ use checks::Refusal;
 use unit::Unit;
 
 // What a point call refuses a point by that the placing call refuses: by what is lent, which is looked at
-// first, or else as that call does.
-#[tactic(auto, unfolding(crate::specs::Unplaced::unplaced_point))]
-pub fn unplaced_point(
+// first, or else as that call does, by a refusal of whatever kind those of the library turn into.
+pub fn unplaced_point<R: From<Refusal> + Copy>(
     unit: Unit,
     net_length: usize,
     corrections_length: usize,
     uncertainties_length: usize,
-    refusal: Refusal,
-) -> Result<Fraction, Refusal>
-    ensures { result ≡ unplaced_point unit net_length corrections_length uncertainties_length
-        refusal }
+    refusal: R,
+) -> Result<Fraction, R>
+    ensures { HandedOn R.from_gives
+        (lent_checks unit net_length corrections_length uncertainties_length) refusal result }
 {
     limits::check_lent(unit, net_length, corrections_length, uncertainties_length)?;
     Err(refusal)
 }
 
 // What a live call refuses it by: by what is lent, then by the divisor, or else as that call does.
-#[tactic(auto, unfolding(crate::specs::Unplaced::unplaced_live))]
-pub fn unplaced_live(
+pub fn unplaced_live<R: From<Refusal> + Copy>(
     unit: Unit,
     net_length: usize,
     corrections_length: usize,
     uncertainties_length: usize,
     divisor: u32,
-    refusal: Refusal,
-) -> Result<LiveValue, Refusal>
-    ensures { result ≡ unplaced_live unit net_length corrections_length uncertainties_length divisor
-        refusal }
+    refusal: R,
+) -> Result<LiveValue, R>
+    ensures { HandedOn R.from_gives
+        (and_then (lent_checks unit net_length corrections_length uncertainties_length)
+        (live_divisor_checks (net_of unit) divisor)) refusal result }
 {
     limits::check_lent(unit, net_length, corrections_length, uncertainties_length)?;
     divisor_checks::check_live_divisor(unit, divisor as u64)?;

@@ -7,14 +7,12 @@ use lib.ListN.{length, length-append}
 use Rattle.sums.proofs.Cases.{by-test}
 use Rattle.text.proofs.Decimals.{item-length, triple-length}
 use Rattle.text.specs.Text.{blank, newline}
-use Rattle.checks.specs.declared.Refusal.{Refusal}
 use Rattle.lines.specs.Lines.{header_text, place_text, refused_text}
-use Rattle.checks.specs.Checks.{number_of}
 
 -- a refusal's line, where its number has at most ten digits
-pub refused-length : (r : Refusal) → number_of r < 10 ^ 10 → length (refused_text r) ≤ 19
+pub refused-length : (n : ℕ) → n < 10 ^ 10 → length (refused_text n) ≤ 19
 unfolding refused_text
-refused-length r h = simp length-append (omega (arith, item-length (number_of r) newline 9 h))
+refused-length n h = simp length-append (omega (arith, item-length n newline 9 h))
 
 -- the first line, of widths of two digits
 pub header-length : (w1 w2 w3 m : ℕ) → w1 < 100 → w2 < 100 → w3 < 100 → m < 10

@@ -1,8 +1,6 @@
 -- The lines that program `shares` prints: Section 13.2.
 use Rattle.std.specs.Prelude.{cond, List, [], ◌++◌, ◌∷◌, ℕ, eqb}
 use Rattle.text.specs.Text.{blank, item, newline, triple}
-use Rattle.checks.specs.declared.Refusal.{Refusal}
-use Rattle.checks.specs.Checks.{number_of}
 
 -- the bytes of `box` and `degree`, with the blank after each
 abbrev pub box_word : List ℕ
@@ -23,6 +21,6 @@ place_text x y z n = cond (eqb n 0) [] (triple x y z blank ++ item n newline)
 abbrev pub refused_word : List ℕ
 refused_word = 114 ∷ 101 ∷ 102 ∷ 117 ∷ 115 ∷ 101 ∷ 100 ∷ 32 ∷ []
 
--- Section 13.2: the line of a refusal
-unfoldable pub refused_text : Refusal → List ℕ
-refused_text r = refused_word ++ item (number_of r) newline
+-- Section 13.2: the line of a refusal, by its number
+unfoldable pub refused_text : ℕ → List ℕ
+refused_text number = refused_word ++ item number newline

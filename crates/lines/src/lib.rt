@@ -5,15 +5,13 @@ ghost use Rattle.std.specs.Prelude.{◌≤◌, length};
 ghost use Rattle.text.specs.Put.{Put};
 ghost use Rattle.lines.specs.Lines.{header_text, place_text, refused_text};
 
-use checks::Refusal;
-
-// The line of a refusal.
-pub fn put_refusal(out: &mut [u8], refusal: Refusal) -> usize
-    ensures { Put (refused_text refusal) out.old out.new 0 result
-        × (length (refused_text refusal) ≤ 19) }
+// The line of a refusal, by its number.
+pub fn put_refusal(out: &mut [u8], number: u32) -> usize
+    ensures { Put (refused_text number) out.old out.new 0 result
+        × (length (refused_text number) ≤ 19) }
 {
     let at = text::put_word(out, 0, b"refused ");
-    text::put_item(out, at, refusal.number() as usize, b'\n')
+    text::put_item(out, at, number as usize, b'\n')
 }
 
 // The line of a box and its degree.

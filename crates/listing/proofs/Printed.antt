@@ -24,7 +24,7 @@ use Rattle.lines.specs.Lines.{header_text, place_text, refused_text}
 use Rattle.listing.specs.Print.{net_text, places_text, printed, printed_order}
 use Rattle.orders.specs.Order.{build_checks, order_checks, order_number}
 use Rattle.std.specs.Prelude.{Err}
-use Rattle.checks.specs.Checks.{no_refusal}
+use Rattle.checks.specs.Checks.{no_refusal, number_of}
 use Rattle.checks.specs.declared.Refusal.TheVariants.{LongOrder}
 
 -- ---- the text of a net
@@ -57,16 +57,16 @@ printed-made o e = simp e
 
 -- one that a check stops prints the refusal
 pub printed-refused : (o : List ℕ) (r : Refusal) → build_checks o 9261 9261 ≡ Err r
-    → printed_order o ≡ refused_text r
+    → printed_order o ≡ refused_text (number_of r)
 unfolding printed_order
 printed-refused o r e = simp e
 
 -- ---- the first bytes decide
-long-refused : (o : List ℕ) → 8 < length o → printed_order o ≡ refused_text LongOrder
+long-refused : (o : List ℕ) → 8 < length o → printed_order o ≡ refused_text 1
 unfolding order_checks build_checks
 long-refused o h = printed-refused o LongOrder (rw (lt-ltb 8 (length o) h))
 
-typed_long : (s : List ℕ) → 8 < order_length s → printed s ≡ refused_text LongOrder
+typed_long : (s : List ℕ) → 8 < order_length s → printed s ≡ refused_text 1
 unfolding printed
 typed_long s h = long-refused (typed_order s) (omega (arith, order-length s))
 

@@ -7,7 +7,7 @@ use Rattle.text.specs.Text.{joined}
 use Rattle.input.specs.Order.{typed_order}
 use Rattle.lines.specs.Lines.{header_text, place_text, refused_text}
 use Rattle.orders.specs.Order.{build_checks, order_number}
-use Rattle.checks.specs.Checks.{passed_or}
+use Rattle.checks.specs.Checks.{number_of, passed_or}
 
 -- Section 13.2: the lines of all places of a box, f being the number at each index
 unfoldable pub places_text : ℕ → ℕ → ℕ → (ℕ → ℕ) → List ℕ
@@ -24,7 +24,7 @@ unfoldable pub printed_order : List ℕ → List ℕ
 printed_order order =
     passed_or (build_checks order 9261 9261)
     (net_text (order_multiplicities order) (order_number order))
-    refused_text
+    (λ r. refused_text (number_of r))
 
 -- Section 13: what is printed where these bytes are typed
 unfoldable pub printed : List ℕ → List ℕ

@@ -54,7 +54,7 @@ fn print_order(order: &[u8], out: &mut [u8]) -> usize
     let mut work = [0i32; PLACES];
     match net::build(Unit::empty(), order, &mut net, &mut work) {
         Ok(unit) => put_net(out, unit, &net),
-        Err(refusal) => lines::put_refusal(out, refusal),
+        Err(refusal) => lines::put_refusal(out, refusal.number()),
     }
 }
 

@@ -31,3 +31,8 @@ casts-down a sign = rw (a.is, sign) (tt, record { fits = omega (arith, a.small) 
 pub alike : {A B : Type 0} (f : B → B → B → A) {a b c x y z : B} → a ≡ x → b ≡ y → c ≡ z
     → f a b c ≡ f x y z
 alike f ea eb ec = rw (ea, eb, ec) refl
+
+-- coordinates that a call hands on are as they were
+pub handed-on : {A : Type 0} (f : ℤ → ℤ → ℤ → A) {x y z : ℤ} → SFits w32 x → SFits w32 y → SFits w32 z
+    → f (to_z w32 (of_z w32 x)) (to_z w32 (of_z w32 y)) (to_z w32 (of_z w32 z)) ≡ f x y z
+handed-on f fx fy fz = alike f (to_z-of_z fx) (to_z-of_z fy) (to_z-of_z fz)

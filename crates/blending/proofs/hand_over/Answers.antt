@@ -1,29 +1,23 @@
--- The first places of the one list are those of the other.
-use mathlib.Core.List.{List, ◌++◌}
-use mathlib.Core.Path.{◌∙◌, ◌≡◌, ap}
-use Prim.Native.Nat.{◌≤◌, ℕ}
+-- A turn writes one place more of each array.
+use mathlib.Core.Path.{refl, sym}
 use native.Mathlib.Omega.{arith}
-use lib.IntN.{pos}
-use lib.ListN.{drop, get_or, length, length-take, take}
-use Rattle.std.proofs.lemmas.List.{get_or-take}
-use Rattle.sums.proofs.Fill.{list-is-tabulate, tabulate-cong}
-use Rattle.sums.specs.Fill.{filled}
+use mir.Facts.{to_z-of_z}
+use mir.Syntax.{w64}
+use mir.Val.{SFits}
+use Rattle.sums.proofs.Fill.{fill_none, fill-store}
+use Rattle.sums.specs.Fill.{number_at, signed_at}
 use Rattle.blending.proofs.hand_over.Goals as goal
 
--- a list's first n elements before the rest of another are what a filling loop makes of it
-copied : {A : Type 0} (l d : List A) (n : ℕ) (z : A) → n ≤ length l
-    → take n l ++ drop n d ≡ filled (λ i. get_or l i z) n d
-unfolding filled
-copied l d n z h =
-    ap (λ (f : List _). f ++ drop n d)
-    (list-is-tabulate (take n l) n z (simp length-take (omega arith))
-    ∙ tabulate-cong (λ i. get_or (take n l) i z) (λ i. get_or l i z) n (λ i k. get_or-take n l i z k))
+pub loop-t-init : goal.loop-t-init
+loop-t-init c = (
+  sym (fill_none (signed_at c.args.corrections.now) _),
+  sym (fill_none (number_at c.args.uncertainties.now) _),
+)
 
-pub returns : goal.returns
-returns c =
-    let a = c.args in
-    let first = copied a.corrections.now a.shifts.now a.count (pos 0) (omega arith) in
-    let second = copied a.uncertainties.now a.spreads.now a.count 0 (omega arith) in record {
-      shifts_after = ap (λ l. l ++ drop a.count a.shifts.now) c.copy_from_slice.ensures.after ∙ first;
-      spreads_after = ap (λ l. l ++ drop a.count a.spreads.now) c.copy_from_slice-2.ensures.after ∙ second;
-    }
+pub loop-t-preserved : goal.loop-t-preserved
+loop-t-preserved c =
+    let at = c.loop-t in
+    let f : SFits w64 (signed_at c.args.corrections.now at.t) = record { sfits = omega arith } in (
+      rw at.invariant.0 (fill-store _ at.t _ _ (omega arith) (to_z-of_z f)),
+      rw at.invariant.1 (fill-store _ at.t _ _ (omega arith) refl),
+    )

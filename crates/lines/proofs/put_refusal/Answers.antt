@@ -2,7 +2,6 @@
 use Prim.Native.Nat.{◌<◌, ◌^◌}
 use native.Mathlib.Omega.{arith}
 use Rattle.text.proofs.Puts.{put_then}
-use Rattle.checks.specs.Checks.{number_of}
 use Rattle.lines.proofs.Lengths.{refused-length}
 use Rattle.lines.specs.Lines.{refused_text}
 use Rattle.lines.proofs.put_refusal.Goals as goal
@@ -10,6 +9,6 @@ use Rattle.lines.proofs.put_refusal.Goals as goal
 pub returns : goal.returns
 unfolding refused_text
 returns c =
-    let r = c.args.refusal in
-    let h : number_of r < 10 ^ 10 = omega arith in
-    (rw (← c.number.ensures) (put_then c.put_word-at.ensures c.put_item.ensures), refused-length r h)
+    let n = c.args.number in
+    let h : n < 10 ^ 10 = omega arith in
+    (put_then c.put_word-at.ensures c.put_item.ensures, refused-length n h)

@@ -10,6 +10,7 @@ use Rattle.unit.specs.Unit.{empty_unit, net_of, with_net}
 use Rattle.unit.specs.declared.Unit.{Unit}
 use Rattle.builds.specs.Build.{build_answer}
 use Rattle.orders.specs.Order.{build_checks}
+use Rattle.lines.specs.Lines.{refused_text}
 use Rattle.listing.proofs.Built.{listed, listed-length, listed-text}
 use Rattle.listing.proofs.Printed.{printed-refused}
 use Rattle.listing.specs.Inner.Fit.{Listed}
@@ -68,9 +69,8 @@ returns-in-Err c =
     let here = (goal.at.returns-in-Err c).After-build in
     let p = c.put_refusal in
     let given = c.in-Err.is in
-    let e = refused-by (checks here) _ (sym (answered here) ∙ given) in (
-      subst (λ (t : List ℕ). Put t c.args.out.now p.new.out 0 p.result)
-          (sym (printed-refused (typed here) _ e))
-          p.ensures.0,
-      omega (arith, ap length (printed-refused (typed here) _ e), p.ensures.1),
+    let e = refused-by (checks here) _ (sym (answered here) ∙ given) in
+    let same = ap refused_text c.number.ensures ∙ sym (printed-refused (typed here) _ e) in (
+      subst (λ (t : List ℕ). Put t c.args.out.now p.new.out 0 p.result) same p.ensures.0,
+      omega (arith, ap length same, p.ensures.1),
     )

@@ -3,7 +3,7 @@
 use mathlib.Core.Path.{◌∙◌, sym}
 use Rattle.possible.proofs.PlacedPossible.{placed}
 use Rattle.answers.proofs.InTurn.{in-turn, short-refused}
-use Rattle.in_turn.proofs.Unplaced.{live-unplaced}
+use Rattle.in_turn.proofs.Unplaced.{as-live, live-unplaced}
 use Rattle.checks.proofs.Checks.{passed_on}
 use Rattle.live.proofs.answer.Goals as goal
 
@@ -26,6 +26,6 @@ returns-in_ok-check_room-in-Ok c =
 pub returns-in-Err : goal.returns-in-Err
 returns-in-Err c =
     let a = c.args in
-    c.unplaced_live.ensures
+    as-live _ _ _ _ _ _ _ c.unplaced_live.ensures
     ∙ live-unplaced a.unit a.lent.net.now a.lent.corrections.now a.lent.uncertainties.now
     a.at.x a.at.y a.at.z a.at.divisor (sym c.place.ensures ∙ c.in-Err.is) a.with_uncertainty
