@@ -22,8 +22,8 @@ mod adding;
 mod entry;
 pub mod lent;
 
-// Writes the first of the blended corrections and uncertainties to the caller's arrays. By copy_from_slice the
-// archive would need memcpy.
+// Writes the first of the blended corrections and uncertainties to the caller's arrays. With copy_from_slice
+// the archive would need memcpy.
 fn hand_over(
     count: usize,
     corrections: &[i64; 220],

@@ -1,7 +1,8 @@
 -- The answers of the C interface that carry no unit, a flat struct in the place of an answer: Section 12.
-use Rattle.std.specs.Prelude.{Bool, Err, Ok, Result, eqb, not, pos, ℕ}
+use Rattle.std.specs.Prelude.{Bool, Err, Ok, Result, eqb, not, pos, ℕ, ◌≡◌}
 use Rattle.axis_order.specs.declared.Placing.{Placing}
 use Rattle.floats.specs.Floats.{float}
+use Rattle.flat_unit.specs.declared.FlatRefusal.{FlatRefusal}
 use Rattle.flat.specs.declared.FlatLiveAnswer.{FlatLiveAnswer}
 use Rattle.flat.specs.declared.FlatPlacingAnswer.{FlatPlacingAnswer}
 use Rattle.flat.specs.declared.FlatPointAnswer.{FlatPointAnswer}
@@ -61,3 +62,27 @@ flat_live (Ok (Both f)) =
 flat_live (Ok (Shift n)) =
     record { number = 0; place = 0; numerator = n; uncertainty = float (pos 0) }
 flat_live (Err r) = refused_live (number_of r) (place_of r)
+
+-- ---- of refusals of any kind R: `turns` says what number and place they turn into
+
+-- Section 12.2: the flat answers that are made so
+abbrev pub PlacingMade : {R : Type 0} → (R → FlatRefusal → Type 0) → Result Placing R → FlatPlacingAnswer
+    → Type 0
+PlacingMade turns (Ok q) flat = flat ≡ flat_placing (Ok q)
+PlacingMade turns (Err r) flat =
+    turns r (record { number = flat.number; place = flat.place })
+    × (flat ≡ refused_placing flat.number flat.place)
+
+abbrev pub PointMade : {R : Type 0} → (R → FlatRefusal → Type 0) → Result Fraction R → FlatPointAnswer
+    → Type 0
+PointMade turns (Ok f) flat = flat ≡ flat_point (Ok f)
+PointMade turns (Err r) flat =
+    turns r (record { number = flat.number; place = flat.place })
+    × (flat ≡ refused_point flat.number flat.place)
+
+abbrev pub LiveMade : {R : Type 0} → (R → FlatRefusal → Type 0) → Result LiveValue R → FlatLiveAnswer
+    → Type 0
+LiveMade turns (Ok value) flat = flat ≡ flat_live (Ok value)
+LiveMade turns (Err r) flat =
+    turns r (record { number = flat.number; place = flat.place })
+    × (flat ≡ refused_live flat.number flat.place)

@@ -3,12 +3,11 @@
 #![tactic(auto)]
 
 ghost use Rattle.std.specs.Prelude.{◌≡◌};
-ghost use Rattle.flat.specs.Flat.{flat_live, flat_placing, flat_point, switched_on};
-ghost use Rattle.flat.specs.Flat.{refused_live, refused_placing, refused_point};
+ghost use Rattle.flat.specs.Flat.{LiveMade, PlacingMade, PointMade, switched_on};
 
 use answers::{Fraction, LiveValue};
 use axis_order::Placing;
-use checks::Refusal;
+use flat_unit::FlatRefusal;
 
 // What a placing call answers: 0, 0 and the placing; or the number and the place of a refusal and zeros.
 #[repr(C)]
@@ -42,66 +41,45 @@ pub struct FlatLiveAnswer {
     pub uncertainty: f64,
 }
 
-impl FlatPlacingAnswer {
-    // A refusal of any number and place.
-    pub fn refused(number: u32, place: usize) -> Self
-        ensures { result ≡ refused_placing number place }
-    {
-        FlatPlacingAnswer {
-            number,
-            place,
-            placing: Placing {
-                k1: 0,
-                k2: 0,
-                k3: 0,
-                p: 0,
-                r: 0,
-                s: 0,
-                l0: 0,
-                l1: 0,
-                l2: 0,
-                l3: 0,
-            },
-        }
-    }
-}
-
 // The answer of a placing call.
-impl From<Result<Placing, Refusal>> for FlatPlacingAnswer {
-    ghost from_gives = { λ answer r. r ≡ flat_placing answer };
+impl<R: Into<FlatRefusal> + Copy> From<Result<Placing, R>> for FlatPlacingAnswer {
+    ghost from_gives = { λ answer flat. PlacingMade R.converts answer flat };
 
-    fn from(answer: Result<Placing, Refusal>) -> FlatPlacingAnswer {
+    fn from(answer: Result<Placing, R>) -> FlatPlacingAnswer {
         match answer {
             Ok(q) => FlatPlacingAnswer {
                 number: 0,
                 place: 0,
                 placing: q,
             },
-            Err(refusal) => FlatPlacingAnswer::refused(refusal.number(), refusal.place()),
-        }
-    }
-}
-
-impl FlatPointAnswer {
-    // A refusal of any number and place.
-    pub fn refused(number: u32, place: usize) -> Self
-        ensures { result ≡ refused_point number place }
-    {
-        FlatPointAnswer {
-            number,
-            place,
-            numerator: 0,
-            uncertainty: 0,
-            denominator: 0,
+            Err(refusal) => {
+                let flat: FlatRefusal = refusal.into();
+                FlatPlacingAnswer {
+                    number: flat.number,
+                    place: flat.place,
+                    placing: Placing {
+                        k1: 0,
+                        k2: 0,
+                        k3: 0,
+                        p: 0,
+                        r: 0,
+                        s: 0,
+                        l0: 0,
+                        l1: 0,
+                        l2: 0,
+                        l3: 0,
+                    },
+                }
+            }
         }
     }
 }
 
 // The answer of a point call or of a valuing call.
-impl From<Result<Fraction, Refusal>> for FlatPointAnswer {
-    ghost from_gives = { λ answer r. r ≡ flat_point answer };
+impl<R: Into<FlatRefusal> + Copy> From<Result<Fraction, R>> for FlatPointAnswer {
+    ghost from_gives = { λ answer flat. PointMade R.converts answer flat };
 
-    fn from(answer: Result<Fraction, Refusal>) -> FlatPointAnswer {
+    fn from(answer: Result<Fraction, R>) -> FlatPointAnswer {
         match answer {
             Ok(value) => FlatPointAnswer {
                 number: 0,
@@ -110,7 +88,16 @@ impl From<Result<Fraction, Refusal>> for FlatPointAnswer {
                 uncertainty: value.uncertainty,
                 denominator: value.denominator,
             },
-            Err(refusal) => FlatPointAnswer::refused(refusal.number(), refusal.place()),
+            Err(refusal) => {
+                let flat: FlatRefusal = refusal.into();
+                FlatPointAnswer {
+                    number: flat.number,
+                    place: flat.place,
+                    numerator: 0,
+                    uncertainty: 0,
+                    denominator: 0,
+                }
+            }
         }
     }
 }
@@ -122,27 +109,12 @@ pub fn switched_on(flag: u8) -> bool
     flag != 0
 }
 
-impl FlatLiveAnswer {
-    // A refusal of any number and place.
-    #[tactic(auto, using(floats::proofs::Totals::zero_is))]
-    pub fn refused(number: u32, place: usize) -> Self
-        ensures { result ≡ refused_live number place }
-    {
-        FlatLiveAnswer {
-            number,
-            place,
-            numerator: 0.0,
-            uncertainty: 0.0,
-        }
-    }
-}
-
 // The answer of a live call or of a live valuing call.
-impl From<Result<LiveValue, Refusal>> for FlatLiveAnswer {
-    ghost from_gives = { λ answer r. r ≡ flat_live answer };
+impl<R: Into<FlatRefusal> + Copy> From<Result<LiveValue, R>> for FlatLiveAnswer {
+    ghost from_gives = { λ answer flat. LiveMade R.converts answer flat };
 
     #[tactic(auto, using(floats::proofs::Totals::zero_is))]
-    fn from(answer: Result<LiveValue, Refusal>) -> FlatLiveAnswer {
+    fn from(answer: Result<LiveValue, R>) -> FlatLiveAnswer {
         match answer {
             Ok(LiveValue::Both(floats)) => FlatLiveAnswer {
                 number: 0,
@@ -156,7 +128,15 @@ impl From<Result<LiveValue, Refusal>> for FlatLiveAnswer {
                 numerator,
                 uncertainty: 0.0,
             },
-            Err(refusal) => FlatLiveAnswer::refused(refusal.number(), refusal.place()),
+            Err(refusal) => {
+                let flat: FlatRefusal = refusal.into();
+                FlatLiveAnswer {
+                    number: flat.number,
+                    place: flat.place,
+                    numerator: 0.0,
+                    uncertainty: 0.0,
+                }
+            }
         }
     }
 }

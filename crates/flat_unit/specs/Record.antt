@@ -1,6 +1,7 @@
 -- The unit record of the C interface, and the answers that carry one: Section 12.
-use Rattle.std.specs.Prelude.{Err, Ok, Result, eqb, pos, ℕ}
+use Rattle.std.specs.Prelude.{Err, Ok, Result, eqb, pos, ℕ, ◌≡◌}
 use Rattle.unit.specs.declared.Unit.{Unit}
+use Rattle.flat_unit.specs.declared.FlatRefusal.{FlatRefusal}
 use Rattle.flat_unit.specs.declared.FlatUnit.{FlatUnit}
 use Rattle.flat_unit.specs.declared.FlatUnitAnswer.{FlatUnitAnswer}
 use Rattle.checks.specs.Checks.{number_of, place_of}
@@ -89,3 +90,22 @@ flat_net before (Err r) = refused_unit (number_of r) (place_of r) before
 abbrev pub flat_block : FlatUnit → Result Unit Refusal → FlatUnitAnswer
 flat_block before (Ok after) = record { number = 0; place = 0; unit = block_half before after }
 flat_block before (Err r) = refused_unit (number_of r) (place_of r) before
+
+-- Section 5.3: a refusal's number and place
+abbrev pub flat_refusal : Refusal → FlatRefusal
+flat_refusal r = record { number = number_of r; place = place_of r }
+
+-- ---- of refusals of any kind R: `turns` says what number and place they turn into
+
+-- the changed record where a unit is answered
+abbrev pub changed_by : {R : Type 0} → (Unit → FlatUnit) → Result Unit R → Result FlatUnit R
+changed_by half (Ok after) = Ok (half after)
+changed_by half (Err r) = Err r
+
+-- Section 12.2: the flat answer that is made of it
+abbrev pub UnitMade : {R : Type 0} → (R → FlatRefusal → Type 0) → FlatUnit → Result FlatUnit R
+    → FlatUnitAnswer → Type 0
+UnitMade turns before (Ok unit) flat = flat ≡ record { number = 0; place = 0; unit = unit }
+UnitMade turns before (Err r) flat =
+    turns r (record { number = flat.number; place = flat.place })
+    × (flat ≡ refused_unit flat.number flat.place before)

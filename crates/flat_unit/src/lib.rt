@@ -2,10 +2,9 @@
 // bytes may stand in a record. docs/SPECIFICATION.md, Section 12.
 #![tactic(auto)]
 
-ghost use Rattle.std.specs.Prelude.{◌≡◌, IfErr, IfOk};
-ghost use Rattle.checks.specs.Checks.{number_of, place_of};
-ghost use Rattle.flat_unit.specs.Record.{block_half, empty_flat, flat_block, flat_net, net_half};
-ghost use Rattle.flat_unit.specs.Record.{refused_unit, unit_of};
+ghost use Rattle.std.specs.Prelude.{◌≡◌};
+ghost use Rattle.flat_unit.specs.Record.{UnitMade, block_half, changed_by, empty_flat, flat_refusal};
+ghost use Rattle.flat_unit.specs.Record.{net_half, unit_of};
 
 use checks::Refusal;
 use unit::Unit;
@@ -26,6 +25,24 @@ pub struct FlatUnit {
     pub o1: i16,
     pub o2: i16,
     pub o3: i16,
+}
+
+// A refusal in C: its number and its place, whatever they are.
+#[derive(Clone, Copy)]
+pub struct FlatRefusal {
+    pub number: u32,
+    pub place: usize,
+}
+
+impl From<Refusal> for FlatRefusal {
+    ghost from_gives = { λ refusal flat. flat ≡ flat_refusal refusal };
+
+    fn from(refusal: Refusal) -> FlatRefusal {
+        FlatRefusal {
+            number: refusal.number(),
+            place: refusal.place(),
+        }
+    }
 }
 
 // What a call that changes the unit answers: 0, 0 and the changed record; or the number and the place of
@@ -113,22 +130,9 @@ impl FlatUnit {
 }
 
 impl FlatUnitAnswer {
-    // A refusal of any number and place, and the record `before`.
-    pub fn refused(number: u32, place: usize, before: FlatUnit) -> Self
-        ensures { result ≡ refused_unit number place before }
-    {
-        FlatUnitAnswer {
-            number,
-            place,
-            unit: before,
-        }
-    }
-
-    // The changed record, or the refusal and the record `before`.
-    fn of(before: FlatUnit, changed: Result<FlatUnit, Refusal>) -> Self
-        ensures ok { IfOk changed (λ unit. result ≡ record { number = 0; place = 0; unit = unit }) }
-        ensures err { IfErr changed (λ refusal. result
-            ≡ refused_unit (number_of refusal) (place_of refusal) before) }
+    // The changed record, or what the refusal turns into and the record `before`.
+    fn of<R: Into<FlatRefusal> + Copy>(before: FlatUnit, changed: Result<FlatUnit, R>) -> Self
+        ensures { UnitMade R.converts before changed result }
     {
         match changed {
             Ok(unit) => FlatUnitAnswer {
@@ -136,21 +140,34 @@ impl FlatUnitAnswer {
                 place: 0,
                 unit,
             },
-            Err(refusal) => FlatUnitAnswer::refused(refusal.number(), refusal.place(), before),
+            Err(refusal) => {
+                let flat: FlatRefusal = refusal.into();
+                FlatUnitAnswer {
+                    number: flat.number,
+                    place: flat.place,
+                    unit: before,
+                }
+            }
         }
     }
 }
 
 // The answer of a call that changes the net half of the record `before`.
-pub fn flat_net(before: FlatUnit, answer: Result<Unit, Refusal>) -> FlatUnitAnswer
-    ensures { result ≡ flat_net before answer }
+pub fn flat_net<R: Into<FlatRefusal> + Copy>(
+    before: FlatUnit,
+    answer: Result<Unit, R>,
+) -> FlatUnitAnswer
+    ensures { UnitMade R.converts before (changed_by (net_half before) answer) result }
 {
     FlatUnitAnswer::of(before, answer.map(|after| before.with_net(after)))
 }
 
 // The answer of a call that changes the block half of the record `before`.
-pub fn flat_block(before: FlatUnit, answer: Result<Unit, Refusal>) -> FlatUnitAnswer
-    ensures { result ≡ flat_block before answer }
+pub fn flat_block<R: Into<FlatRefusal> + Copy>(
+    before: FlatUnit,
+    answer: Result<Unit, R>,
+) -> FlatUnitAnswer
+    ensures { UnitMade R.converts before (changed_by (block_half before) answer) result }
 {
     FlatUnitAnswer::of(before, answer.map(|after| before.with_block(after)))
 }

@@ -21,18 +21,20 @@ use Rattle.answers.proofs.Point as point
 use Rattle.checks.specs.Checks.{Checked, and_then, passed_or}
 use Rattle.std.specs.Prelude.{Err, Ok, Result}
 
--- of the library's own kind it is as the definitions say
+-- a refusal of the library's own kind is handed on as it is
 as_it_is : {A : Type 0} (k : Checked) (r : Refusal) (answer : Result A Refusal)
     → HandedOn (λ s t. t ≡ s) k r answer → answer ≡ passed_or k (Err r) Err
 as_it_is (Ok _) r answer h = h
 as_it_is (Err s) r (Ok a) h = absurd h.1
 as_it_is (Err s) r (Err t) h = ap Err h.1
 
+-- so a point call's answer is the definition's
 pub as-point : (u : Unit) (n c k : ℕ) (r : Refusal) (answer : Result Fraction Refusal)
     → HandedOn (λ s t. t ≡ s) (lent_checks u n c k) r answer → answer ≡ unplaced_point u n c k r
 unfolding unplaced_point
 as-point u n c k r answer h = as_it_is (lent_checks u n c k) r answer h
 
+-- and so is a live call's
 pub as-live : (u : Unit) (n c k D : ℕ) (r : Refusal) (answer : Result LiveValue Refusal)
     → HandedOn (λ s t. t ≡ s) (and_then (lent_checks u n c k) (live_divisor_checks (net_of u) D)) r answer
     → answer ≡ unplaced_live u n c k D r

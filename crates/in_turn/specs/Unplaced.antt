@@ -9,8 +9,8 @@ use Rattle.checks.specs.Checks.{Checked, and_then, passed_or}
 use Rattle.answers.specs.declared.Fraction.{Fraction}
 use Rattle.answers.specs.declared.LiveValue.{LiveValue}
 
--- what is answered where a refusal of some kind is handed on and these checks come before it: theirs, as one of
--- that kind, or else that refusal
+-- what is answered where a refusal of some kind is handed on and these checks come before it: theirs, as one
+-- of that kind, or else that refusal
 abbrev pub HandedOn : {A R : Type 0} → (Refusal → R → Type 0) → Checked → R → Result A R → Type 0
 HandedOn gives (Ok _) r answer = answer ≡ Err r
 HandedOn gives (Err s) r answer = IsErr answer × IsErrAnd answer (gives s)
