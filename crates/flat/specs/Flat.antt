@@ -65,7 +65,7 @@ flat_live (Err r) = refused_live (number_of r) (place_of r)
 
 -- ---- of refusals of any kind R: `turns` says what number and place they turn into
 
--- Section 12.2: the flat answers that are made so
+-- Section 12.2: what the flat answer of a placing call is
 abbrev pub PlacingMade : {R : Type 0} → (R → FlatRefusal → Type 0) → Result Placing R → FlatPlacingAnswer
     → Type 0
 PlacingMade turns (Ok q) flat = flat ≡ flat_placing (Ok q)
@@ -73,6 +73,7 @@ PlacingMade turns (Err r) flat =
     turns r (record { number = flat.number; place = flat.place })
     × (flat ≡ refused_placing flat.number flat.place)
 
+-- of a point call or of a valuing call
 abbrev pub PointMade : {R : Type 0} → (R → FlatRefusal → Type 0) → Result Fraction R → FlatPointAnswer
     → Type 0
 PointMade turns (Ok f) flat = flat ≡ flat_point (Ok f)
@@ -80,6 +81,7 @@ PointMade turns (Err r) flat =
     turns r (record { number = flat.number; place = flat.place })
     × (flat ≡ refused_point flat.number flat.place)
 
+-- of a live call or of a live valuing call
 abbrev pub LiveMade : {R : Type 0} → (R → FlatRefusal → Type 0) → Result LiveValue R → FlatLiveAnswer
     → Type 0
 LiveMade turns (Ok value) flat = flat ≡ flat_live (Ok value)

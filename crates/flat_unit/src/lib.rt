@@ -27,7 +27,7 @@ pub struct FlatUnit {
     pub o3: i16,
 }
 
-// A refusal in C: its number and its place, whatever they are.
+// A refusal by its number and its place, whatever they are: what a flat answer tells of it.
 #[derive(Clone, Copy)]
 pub struct FlatRefusal {
     pub number: u32,
