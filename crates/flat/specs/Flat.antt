@@ -2,6 +2,7 @@
 use Rattle.std.specs.Prelude.{Bool, Err, Ok, Result, eqb, not, pos, ℕ, ◌≡◌}
 use Rattle.axis_order.specs.declared.Placing.{Placing}
 use Rattle.floats.specs.Floats.{float}
+use Rattle.flat_unit.specs.Record.{Tells}
 use Rattle.flat_unit.specs.declared.FlatRefusal.{FlatRefusal}
 use Rattle.flat.specs.declared.FlatLiveAnswer.{FlatLiveAnswer}
 use Rattle.flat.specs.declared.FlatPlacingAnswer.{FlatPlacingAnswer}
@@ -69,22 +70,16 @@ flat_live (Err r) = refused_live (number_of r) (place_of r)
 abbrev pub PlacingMade : {R : Type 0} → (R → FlatRefusal → Type 0) → Result Placing R → FlatPlacingAnswer
     → Type 0
 PlacingMade turns (Ok q) flat = flat ≡ flat_placing (Ok q)
-PlacingMade turns (Err r) flat =
-    turns r (record { number = flat.number; place = flat.place })
-    × (flat ≡ refused_placing flat.number flat.place)
+PlacingMade turns (Err r) flat = Tells turns refused_placing r flat.number flat.place flat
 
 -- of a point call or of a valuing call
 abbrev pub PointMade : {R : Type 0} → (R → FlatRefusal → Type 0) → Result Fraction R → FlatPointAnswer
     → Type 0
 PointMade turns (Ok f) flat = flat ≡ flat_point (Ok f)
-PointMade turns (Err r) flat =
-    turns r (record { number = flat.number; place = flat.place })
-    × (flat ≡ refused_point flat.number flat.place)
+PointMade turns (Err r) flat = Tells turns refused_point r flat.number flat.place flat
 
 -- of a live call or of a live valuing call
 abbrev pub LiveMade : {R : Type 0} → (R → FlatRefusal → Type 0) → Result LiveValue R → FlatLiveAnswer
     → Type 0
 LiveMade turns (Ok value) flat = flat ≡ flat_live (Ok value)
-LiveMade turns (Err r) flat =
-    turns r (record { number = flat.number; place = flat.place })
-    × (flat ≡ refused_live flat.number flat.place)
+LiveMade turns (Err r) flat = Tells turns refused_live r flat.number flat.place flat

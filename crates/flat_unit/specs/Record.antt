@@ -97,15 +97,19 @@ flat_refusal r = record { number = number_of r; place = place_of r }
 
 -- ---- of refusals of any kind R: `turns` says what number and place they turn into
 
+-- a flat answer with this number and place tells of the refusal
+abbrev pub Tells : {R F : Type 0} → (R → FlatRefusal → Type 0) → (ℕ → ℕ → F) → R → ℕ → ℕ → F → Type 0
+Tells turns refused r number place flat =
+    turns r (record { number = number; place = place }) × (flat ≡ refused number place)
+
 -- the changed record where a unit is answered
 abbrev pub changed_by : {R : Type 0} → (Unit → FlatUnit) → Result Unit R → Result FlatUnit R
 changed_by half (Ok after) = Ok (half after)
 changed_by half (Err r) = Err r
 
--- Section 12.2: the flat answer that is made of it
+-- Section 12.2: what the flat answer is that is made of it
 abbrev pub UnitMade : {R : Type 0} → (R → FlatRefusal → Type 0) → FlatUnit → Result FlatUnit R
     → FlatUnitAnswer → Type 0
 UnitMade turns before (Ok unit) flat = flat ≡ record { number = 0; place = 0; unit = unit }
 UnitMade turns before (Err r) flat =
-    turns r (record { number = flat.number; place = flat.place })
-    × (flat ≡ refused_unit flat.number flat.place before)
+    Tells turns (λ number place. refused_unit number place before) r flat.number flat.place flat

@@ -25,8 +25,8 @@ use Rattle.std.specs.Prelude.{Err, Ok, Result}
 as_it_is : {A : Type 0} (k : Checked) (r : Refusal) (answer : Result A Refusal)
     → HandedOn (λ s t. t ≡ s) k r answer → answer ≡ passed_or k (Err r) Err
 as_it_is (Ok _) r answer h = h
-as_it_is (Err s) r (Ok a) h = absurd h.1
-as_it_is (Err s) r (Err t) h = ap Err h.1
+as_it_is (Err s) r (Ok a) h = absurd h
+as_it_is (Err s) r (Err t) h = ap Err h
 
 -- so a point call's answer is the definition's
 pub as-point : (u : Unit) (n c k : ℕ) (r : Refusal) (answer : Result Fraction Refusal)

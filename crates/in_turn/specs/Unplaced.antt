@@ -1,5 +1,5 @@
 -- What calls that place and value in turn answer where a point is not placed: Sections 11.4 and 11.8.
-use Rattle.std.specs.Prelude.{Err, IsErr, IsErrAnd, Ok, Result, ℕ, ◌≡◌}
+use Rattle.std.specs.Prelude.{Err, IsErrAnd, Ok, Result, ℕ, ◌≡◌}
 use Rattle.checks.specs.declared.Refusal.{Refusal}
 use Rattle.unit.specs.Unit.{net_of}
 use Rattle.unit.specs.declared.Unit.{Unit}
@@ -13,7 +13,7 @@ use Rattle.answers.specs.declared.LiveValue.{LiveValue}
 -- of that kind, or else that refusal
 abbrev pub HandedOn : {A R : Type 0} → (Refusal → R → Type 0) → Checked → R → Result A R → Type 0
 HandedOn gives (Ok _) r answer = answer ≡ Err r
-HandedOn gives (Err s) r answer = IsErr answer × IsErrAnd answer (gives s)
+HandedOn gives (Err s) r answer = IsErrAnd answer (gives s)
 
 module _ (u : Unit) (net_length corrections_length uncertainties_length : ℕ) where
   -- a point call: the refusal of what is lent, or else that of the placing call
